@@ -1,0 +1,83 @@
+-- Laws of runs of bytes: their length, their bytes, joining two, and where they are a plain cut of the list; and of blank ones.
+-- Assumes nothing.
+use mathlib.Core.Path.{_≡_, refl, ap, ap₂, _∙_}
+use mathlib.Core.Logic.{_↔_}
+use mathlib.Core.Bool.{true}
+use mathlib.Core.List.{List, [], _∷_, _++_}
+use Prim.Native.Nat.{ℕ, zero, suc, _+_, _-_, _≤_, _<_}
+use native.Mathlib.Omega.{arith}
+use native.Mathlib.Nat.{sub-zero, add-zero, le-of-suc-le-suc, not-suc-le-zero}
+use lib.ListN.{length, getD, take, drop, replicate}
+use lib.Seq.{drop-cons}
+use lib.Dec.{eqb}
+use borrow.Author.Tests.{eqb-true}
+use Rattle.slices.specs.Part.{part, blank}
+use Rattle.slices.proofs.Cases.{and-left, and-right}
+
+-- what is left of a count after k
+pub one-less : (n k : ℕ) → k < n → n - k ≡ suc (n - (k + 1))
+one-less n k h = omega arith
+
+pub length-part : (n i : ℕ) (xs : List ℕ) → length (part n i xs) ≡ n
+unfolding part
+length-part zero i xs = refl
+length-part (suc n) i xs = ap suc (length-part n (suc i) xs)
+
+pub getD-part : (n i : ℕ) (xs : List ℕ) (k : ℕ) → k < n → getD (part n i xs) k 0 ≡ getD xs (i + k) 0
+unfolding part
+getD-part zero i xs k h = absurd (not-suc-le-zero h)
+getD-part (suc n) i xs zero h = rw add-zero
+getD-part (suc n) i xs (suc k) h =
+    let e : suc i + k ≡ i + suc k = omega arith in
+    getD-part n (suc i) xs k (le-of-suc-le-suc h) ∙ rw e
+
+-- two runs, one behind the other
+pub part-append : (m n i : ℕ) (xs : List ℕ) → part (m + n) i xs ≡ part m i xs ++ part n (i + m) xs
+unfolding part
+part-append zero n i xs =
+    let e : 0 + n ≡ n = omega arith in
+    let f : i + 0 ≡ i = omega arith in
+    rw (e, f)
+part-append (suc m) n i xs =
+    let e : suc m + n ≡ suc (m + n) = omega arith in
+    let f : i + suc m ≡ suc i + m = omega arith in
+    rw (e, f) (ap (λ (t : List ℕ). getD xs i 0 ∷ t) (part-append m n (suc i) xs))
+
+-- within the list a run is a plain cut
+pub part-take : (n i : ℕ) (xs : List ℕ) → i + n ≤ length xs → part n i xs ≡ take n (drop i xs)
+unfolding part
+part-take zero i xs h = refl
+part-take (suc n) i xs h =
+    rw (drop-cons xs i 0 (omega arith)) (ap (λ (t : List ℕ). getD xs i 0 ∷ t) (part-take n (suc i) xs (omega arith)))
+
+-- a run of which k bytes are passed
+module _ (n i : ℕ) (xs : List ℕ) (k : ℕ) where
+  pub part-next : k < n → part (n - k) (i + k) xs ≡ getD xs (i + k) 0 ∷ part (n - (k + 1)) (i + (k + 1)) xs
+  unfolding part
+  part-next h =
+      let e : i + (k + 1) ≡ suc (i + k) = omega arith in
+      rw (one-less n k h, e)
+
+  pub part-done : n ≤ k → part (n - k) (i + k) xs ≡ []
+  unfolding part
+  part-done h = let e : n - k ≡ 0 = omega arith in rw e
+
+pub part-whole : (n i : ℕ) (xs : List ℕ) → part (n - 0) (i + 0) xs ≡ part n i xs
+part-whole n i xs = rw (sub-zero, add-zero)
+
+-- blank is: nothing but blanks
+pub blank-means : (xs : List ℕ) → blank xs ≡ true → xs ≡ replicate (length xs) 32
+unfolding blank
+blank-means [] e = refl
+blank-means (b ∷ bs) e =
+    let p : b ≡ 32 = eqb-true b 32 (and-left (eqb b 32) (blank bs) e) in
+    let q : bs ≡ replicate (length bs) 32 = blank-means bs (and-right (eqb b 32) (blank bs) e) in
+    ap₂ (λ (x : ℕ) (ys : List ℕ). x ∷ ys) p q
+
+pub blank-replicate : (n : ℕ) → blank (replicate n 32) ≡ true
+unfolding blank
+blank-replicate zero = refl
+blank-replicate (suc n) = blank-replicate n
+
+pub blank-iff : (xs : List ℕ) → (blank xs ≡ true) ↔ (xs ≡ replicate (length xs) 32)
+blank-iff xs = (blank-means xs, λ e. ap blank e ∙ blank-replicate (length xs))

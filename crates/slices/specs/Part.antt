@@ -1,0 +1,17 @@
+-- A run of bytes of a list, and whether it is blank.
+-- Assumes nothing.
+use Prim.Native.Nat.{ℕ, zero, suc}
+use mathlib.Core.Bool.{Bool, true, _&&_}
+use mathlib.Core.List.{List, [], _∷_}
+use lib.Dec.{eqb}
+use lib.ListN.{getD}
+
+-- the n bytes of xs from i on, and 0 for each past its end
+unfoldable pub part : ℕ → ℕ → List ℕ → List ℕ
+part zero i xs = []
+part (suc n) i xs = getD xs i 0 ∷ part n (suc i) xs
+
+-- all are blanks
+unfoldable pub blank : List ℕ → Bool
+blank [] = true
+blank (b ∷ bs) = eqb b 32 && blank bs

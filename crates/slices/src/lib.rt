@@ -1,0 +1,135 @@
+// Reading, comparing and writing runs of bytes, at every place of every slice. A byte past a slice's end reads as 0, and a byte
+// that is put past it is dropped, so no function here asks anything of its caller.
+ghost use mathlib.Core.Path.{_≡_};
+ghost use mathlib.Core.List.{_++_};
+ghost use Prim.Native.Nat.{_+_, _-_};
+ghost use lib.ListN.{getD, length, set, take, drop, replicate};
+ghost use lib.Seq.{sets};
+ghost use Rattle.slices.specs.Part.{part, blank};
+ghost use Rattle.slices.specs.Order.{order, equal};
+ghost use Rattle.slices.specs.Search.{firstAt, isLineFeed};
+
+pub enum Ordering {
+    Less,
+    Equal,
+    Greater,
+}
+
+// The byte at i, or 0 past the end.
+pub fn byte_at(s: &[u8], i: usize) -> u8
+    ensures { λ r. ⌜ r ≡ getD (now (s .entry)) i 0 ⌝ }
+{
+    if i < s.len() { s[i] } else { 0 }
+}
+
+// The byte k places after i, or 0 past the end; i + k may be larger than any usize.
+pub fn byte_after(s: &[u8], i: usize, k: usize) -> u8
+    ensures { λ r. ⌜ r ≡ getD (now (s .entry)) (i + k) 0 ⌝ }
+{
+    if i < s.len() {
+        if k < s.len() - i {
+            return s[i + k];
+        }
+    }
+    0
+}
+
+// Puts b in the place k after i, or nowhere past the end.
+pub fn put_after(out: &mut [u8], i: usize, k: usize, b: u8)
+    ensures { λ _. ⌜ now (out .exit) ≡ set (now (out .entry)) (i + k) b ⌝ }
+{
+    if i < out.len() {
+        if k < out.len() - i {
+            out[i + k] = b;
+        }
+    }
+}
+
+// How the n bytes of a from i on stand to the n bytes of b from j on, by the first that differs.
+pub fn compare(a: &[u8], i: usize, b: &[u8], j: usize, n: usize) -> Ordering
+    ensures { λ r. ⌜ r ≡ order (part n i (now (a .entry))) (part n j (now (b .entry))) ⌝ }
+{
+    let mut k = 0;
+    while k < n {
+        let x = byte_after(a, i, k);
+        let y = byte_after(b, j, k);
+        if x < y {
+            return Ordering::Less;
+        }
+        if y < x {
+            return Ordering::Greater;
+        }
+        k += 1;
+    }
+    Ordering::Equal
+}
+
+// Whether the n bytes of a from i on are the n bytes of b from j on.
+pub fn same(a: &[u8], i: usize, b: &[u8], j: usize, n: usize) -> bool
+    ensures { λ r. ⌜ r ≡ equal (part n i (now (a .entry))) (part n j (now (b .entry))) ⌝ }
+{
+    let way = compare(a, i, b, j, n);
+    match way {
+        Ordering::Less => false,
+        Ordering::Equal => true,
+        Ordering::Greater => false,
+    }
+}
+
+// Whether the n bytes from i on are all blanks.
+pub fn is_blank(s: &[u8], i: usize, n: usize) -> bool
+    ensures { λ r. ⌜ r ≡ blank (part n i (now (s .entry))) ⌝ }
+{
+    let mut k = 0;
+    while k < n {
+        if byte_after(s, i, k) != 32 {
+            return false;
+        }
+        k += 1;
+    }
+    true
+}
+
+// Copies the n bytes of from that begin at i over those of out that begin at `at`.
+pub fn copy(from: &[u8], i: usize, out: &mut [u8], at: usize, n: usize)
+    ensures { λ _. ⌜ now (out .exit) ≡ sets (now (out .entry)) at (part n i (now (from .entry))) ⌝ }
+{
+    let mut k = 0;
+    while k < n {
+        let b = byte_after(from, i, k);
+        put_after(out, at, k, b);
+        k += 1;
+    }
+}
+
+// Makes every byte 0 from `at` on.
+pub fn clear_from(out: &mut [u8], at: usize)
+    ensures { λ _. ⌜ now (out .exit) ≡ take at (now (out .entry)) ++ replicate (length (now (out .entry)) - at) 0 ⌝ }
+{
+    let mut i = at;
+    while i < out.len() {
+        out[i] = 0;
+        i += 1;
+    }
+}
+
+// Makes every byte 0.
+pub fn clear(out: &mut [u8])
+    ensures { λ _. ⌜ now (out .exit) ≡ replicate (length (now (out .entry))) 0 ⌝ }
+{
+    clear_from(out, 0);
+}
+
+// The place of the first line feed at or after `from`; where there is none, the slice's end, or `from` where that is past it.
+pub fn line_feed(s: &[u8], from: usize) -> usize
+    ensures { λ r. ⌜ r ≡ from + firstAt isLineFeed (drop from (now (s .entry))) ⌝ }
+{
+    let mut i = from;
+    while i < s.len() {
+        if s[i] == 10 {
+            return i;
+        }
+        i += 1;
+    }
+    i
+}
