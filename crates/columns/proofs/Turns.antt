@@ -1,0 +1,105 @@
+-- One turn of each loop of the matcher, as an equation between what is left to do before it and after it.
+-- Assumes nothing.
+use mathlib.Core.Path.{_≡_, _∙_}
+use mathlib.Core.Bool.{Bool, true, false, cond, _&&_, _||_}
+use mathlib.Core.List.{List}
+use Prim.Native.Nat.{ℕ, _+_, _*_, _-_, _<_, _≤_}
+use native.Mathlib.Omega.{arith}
+use native.Mathlib.Nat.{sub-zero, mul-le-mul-left}
+use lib.ListN.{getD}
+use Rattle.slices.specs.Part.{part}
+use Rattle.slices.proofs.PartLaws.{one-less, part-next, part-done, part-whole}
+use Rattle.columns.specs.ByteSets.{fits}
+use Rattle.columns.specs.Patterns.{fitsAll}
+use Rattle.columns.specs.Rows.{Row, stands, alternativeOk, matches, rowOk, firstOf}
+use Rattle.columns.specs.Table.{alternativeAt, alternativesAt, rowAt, rowsAt, decode}
+
+-- a row's alternatives take at most this much of a table
+pub small : (n w : ℕ) → n < 256 → w < 256 → n * (w + 2) ≤ 65535
+small n w hn hw = let h : w + 2 ≤ 257 = omega arith in omega (arith, mul-le-mul-left n h)
+
+-- a pattern and a field of w letters, of which k are passed
+pub lettersLeft : List ℕ → List ℕ → ℕ → ℕ → ℕ → ℕ → Bool
+lettersLeft t rec w p at k = fitsAll (part (w - k) (p + k) t) (part (w - k) (at + k) rec)
+
+pub letters-start : (t rec : List ℕ) (w p at : ℕ) → fitsAll (part w p t) (part w at rec) ≡ lettersLeft t rec w p at 0
+unfolding lettersLeft
+letters-start t rec w p at = rw (part-whole w p t, part-whole w at rec)
+
+pub letters-end : (t rec : List ℕ) (w p at k : ℕ) → w ≤ k → lettersLeft t rec w p at k ≡ true
+unfolding lettersLeft fitsAll
+letters-end t rec w p at k h = rw (part-done w p t k h, part-done w at rec k h)
+
+module _ (t rec : List ℕ) (w p at k : ℕ) (h : k < w) {c b : ℕ} {r : Bool}
+    (hc : c ≡ getD t (p + k) 0) (hb : b ≡ getD rec (at + k) 0) (hr : r ≡ fits c b) where
+  letters-step : lettersLeft t rec w p at k ≡ (r && lettersLeft t rec w p at (k + 1))
+  unfolding lettersLeft fitsAll
+  letters-step = rw (part-next w p t k h, part-next w at rec k h, ← hc, ← hb, hr)
+
+  pub letters-go : r ≡ true → lettersLeft t rec w p at k ≡ lettersLeft t rec w p at (k + 1)
+  letters-go e = letters-step ∙ rw e
+
+  pub letters-stop : r ≡ false → lettersLeft t rec w p at k ≡ false
+  letters-stop e = letters-step ∙ rw e
+
+-- an alternative is its pattern where its guard stands, and nothing where it does not
+module _ (t rec : List ℕ) (at p w : ℕ) {x y : ℕ} {g : Bool} (hx : x ≡ getD t p 0) (hy : y ≡ getD t (p + 1) 0) (hg : g ≡ stands x y rec) where
+  guard : stands (getD t p 0) (getD t (p + 1) 0) rec ≡ g
+  guard = cc
+
+  pub guard-stood : {r : Bool} → g ≡ true → r ≡ fitsAll (part w (p + 2) t) (part w at rec) → r ≡ alternativeOk (alternativeAt t w p) rec (part w at rec)
+  guard-stood e h = rw (guard, e) h
+
+  pub guard-failed : g ≡ false → false ≡ alternativeOk (alternativeAt t w p) rec (part w at rec)
+  guard-failed e = rw (guard, e)
+
+-- the alternatives of a row, of which j are passed, the next one at p
+pub alternativesLeft : List ℕ → List ℕ → ℕ → ℕ → ℕ → ℕ → ℕ → Bool
+alternativesLeft t rec at n w p j = matches (alternativesAt t (n - j) w p) rec (part w at rec)
+
+pub alternatives-start : (t rec : List ℕ) (at n w p : ℕ) → matches (alternativesAt t n w p) rec (part w at rec) ≡ alternativesLeft t rec at n w p 0
+unfolding alternativesLeft
+alternatives-start t rec at n w p = rw sub-zero
+
+pub alternatives-end : (t rec : List ℕ) (at n w p j : ℕ) → n ≤ j → alternativesLeft t rec at n w p j ≡ false
+unfolding alternativesLeft alternativesAt matches
+alternatives-end t rec at n w p j h = let e : n - j ≡ 0 = omega arith in rw e
+
+module _ (t rec : List ℕ) (at n w p j : ℕ) (h : j < n) {r : Bool}
+    (hr : r ≡ alternativeOk (alternativeAt t w p) rec (part w at rec)) where
+  alternatives-step : alternativesLeft t rec at n w p j ≡ (r || alternativesLeft t rec at n w (p + 2 + w) (j + 1))
+  unfolding alternativesLeft alternativesAt matches
+  alternatives-step = rw (one-less n j h, hr)
+
+  pub alternatives-go : r ≡ false → alternativesLeft t rec at n w p j ≡ alternativesLeft t rec at n w (p + 2 + w) (j + 1)
+  alternatives-go e = alternatives-step ∙ rw e
+
+  pub alternatives-found : r ≡ true → alternativesLeft t rec at n w p j ≡ true
+  alternatives-found e = alternatives-step ∙ rw e
+
+-- the rows of a table, of which i are passed, the next one at p and its field at index `at`
+pub rowsLeft : (Row → List ℕ → ℕ) → List ℕ → List ℕ → ℕ → ℕ → ℕ → ℕ → ℕ
+rowsLeft f t rec rows p at i = firstOf f (rowsAt t (rows - i) p at) rec
+
+pub rows-start : (f : Row → List ℕ → ℕ) (t rec : List ℕ) (rows : ℕ) → rows ≡ getD t 0 0 → firstOf f (decode t) rec ≡ rowsLeft f t rec rows 1 0 0
+unfolding rowsLeft decode
+rows-start f t rec rows h = rw (sub-zero, ← h)
+
+pub rows-end : (f : Row → List ℕ → ℕ) (t rec : List ℕ) (rows p at i : ℕ) → rows ≤ i → rowsLeft f t rec rows p at i ≡ 0
+unfolding rowsLeft rowsAt firstOf
+rows-end f t rec rows p at i h = let e : rows - i ≡ 0 = omega arith in rw e
+
+module _ (f : Row → List ℕ → ℕ) (t rec : List ℕ) (rows p at i : ℕ) (h : i < rows) {w n : ℕ} {r : Bool}
+    (hw : w ≡ getD t p 0) (hn : n ≡ getD t (p + 1) 0) (hr : r ≡ matches (alternativesAt t n w (p + 2)) rec (part w at rec)) where
+  row-ok : rowOk (rowAt t p at) rec ≡ r
+  row-ok = let e : at + 1 - 1 ≡ at = omega arith in cc
+
+  rows-step : rowsLeft f t rec rows p at i ≡ cond r (rowsLeft f t rec rows (p + 2 + n * (w + 2)) (at + w) (i + 1)) (f (rowAt t p at) rec)
+  unfolding rowsLeft rowsAt firstOf
+  rows-step = rw (one-less rows i h, row-ok, hw, hn)
+
+  pub rows-go : r ≡ true → rowsLeft f t rec rows p at i ≡ rowsLeft f t rec rows (p + 2 + n * (w + 2)) (at + w) (i + 1)
+  rows-go e = rows-step ∙ rw e
+
+  pub rows-bad : r ≡ false → rowsLeft f t rec rows p at i ≡ f (rowAt t p at) rec
+  rows-bad e = rows-step ∙ rw e

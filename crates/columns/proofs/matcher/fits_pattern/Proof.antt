@@ -1,0 +1,66 @@
+-- The invariant: the letters that are left decide the answer. Assumes nothing.
+use borrow.Author.Needs.{needs}
+use mathlib.Core.Path.{_≡_, sym, _∙_}
+use Prim.Native.Nat.{_≤_, _-_}
+use Rattle.columns.proofs.Turns.{lettersLeft, letters-start, letters-go, letters-stop, letters-end}
+use Rattle.columns.specs.Patterns.{fitsAll}
+use Rattle.slices.specs.Part.{part}
+use Rattle.columns.proofs.matcher.fits_pattern.Statement.{statement}
+use Rattle.columns.proofs.matcher.fits_pattern.Tie as tie
+
+abbrev Inv-loop : tie.InvT-loop
+Inv-loop t rec at p w k₀ k = (k ≤ w) × (fitsAll (part w p t) (part w at rec) ≡ lettersLeft t rec w p at k)
+
+abbrev μ-loop : tie.MeasureT-loop
+μ-loop t rec at p w k₀ k = w - k
+
+loop-holds : tie.Need-loop-holds Inv-loop μ-loop
+loop-holds c = (search needs, letters-start _ _ _ _ _)
+
+add-byte-at : tie.Need-add-byte-at Inv-loop μ-loop
+add-byte-at c = search needs
+
+byte-at-requires : tie.Need-byte-at-requires Inv-loop μ-loop
+byte-at-requires c κs = search needs
+
+add-byte-at-2 : tie.Need-add-byte-at-2 Inv-loop μ-loop
+add-byte-at-2 c = search needs
+
+byte-at-requires-2 : tie.Need-byte-at-requires-2 Inv-loop μ-loop
+byte-at-requires-2 c κs = search needs
+
+in-set-requires : tie.Need-in-set-requires Inv-loop μ-loop
+in-set-requires c κs = search needs
+
+add-k : tie.Need-add-k Inv-loop μ-loop
+add-k c = search needs
+
+loop-less : tie.Need-loop-less Inv-loop μ-loop
+loop-less c = search needs
+
+loop-again : tie.Need-loop-again Inv-loop μ-loop
+loop-again c = (search needs, c .before .before .before .before .before .loop .inv .1 ∙ letters-go _ _ _ _ _ _ (c .before .before .before .before .loop-test .taken) (c .before .before .before .byte-at .ensures) (c .before .before .byte-at2 .ensures) (c .before .in-set .ensures) (c .if1 .taken))
+
+returns : tie.Need-returns Inv-loop μ-loop
+returns c = sym (c .before .before .before .before .before .loop .inv .1 ∙ letters-stop _ _ _ _ _ _ (c .before .before .before .before .loop-test .taken) (c .before .before .before .byte-at .ensures) (c .before .before .byte-at2 .ensures) (c .before .in-set .ensures) (c .if1 .left))
+
+returns-2 : tie.Need-returns-2 Inv-loop μ-loop
+returns-2 c = sym (c .before .loop .inv .1 ∙ letters-end _ _ _ _ _ _ (c .loop-test .left))
+
+pub fits-pattern-spec : {M : Type 1} → statement M
+fits-pattern-spec =
+    tie.close
+    (tie.spec
+    Inv-loop
+    μ-loop
+    loop-holds
+    add-byte-at
+    byte-at-requires
+    add-byte-at-2
+    byte-at-requires-2
+    in-set-requires
+    add-k
+    loop-less
+    loop-again
+    returns
+    returns-2)

@@ -1,0 +1,37 @@
+// Which byte may stand in which column of a record. The layouts are data (specs/Layout.antt); one matcher holds a record to the table
+// of bytes that it is lent. Assumes nothing of the caller: a record is any slice, and a byte past its end reads as 0, which is legal
+// nowhere.
+mod byte_sets;
+mod matcher;
+mod tables;
+
+ghost use mathlib.Core.Path.{_≡_};
+ghost use Rattle.columns.specs.Kinds.{kindOf, firstBadField};
+
+pub enum Kind {
+    Primary,
+    Continuation,
+}
+
+// Which kind a record is, by column 39: 2 to 9 and A to Z number a continuation, anything else is judged as a primary.
+pub fn kind_of(rec: &[u8]) -> Kind
+    ensures { λ r. ⌜ r ≡ kindOf (now (rec .entry)) ⌝ }
+{
+    if byte_sets::in_set(b'k', slices::byte_at(rec, 38)) {
+        Kind::Continuation
+    } else {
+        Kind::Primary
+    }
+}
+
+// The first column of the leftmost field of the record's own layout that holds nothing legal, or 0 where every field holds something
+// legal.
+pub fn first_bad(rec: &[u8]) -> usize
+    ensures { λ r. ⌜ r ≡ firstBadField (now (rec .entry)) ⌝ }
+{
+    let kind = kind_of(rec);
+    match kind {
+        Kind::Primary => tables::first_bad_of_primary(rec),
+        Kind::Continuation => tables::first_bad_of_continuation(rec),
+    }
+}
