@@ -1,2 +1,10 @@
-mod Turns
+pub mod Content
+pub mod FieldLaws
+pub mod LetterLaws
+pub mod PatternLaws
+pub mod RowLaws
 pub mod Tied
+pub mod Tiled
+pub mod WordLaws
+mod Turns
+mod Vectors

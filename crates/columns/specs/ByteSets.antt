@@ -21,15 +21,8 @@ abbrev pub set : Char → List Range → ByteSet
 set x rs = record { letter = code x; ranges = rs }
 
 infix 70 _to_
--- a capital letter
--- a digit
--- a digit but 0
--- a capital letter or a digit
--- .. or a blank
--- text: a capital letter, a digit or minus
--- .. or a blank
--- the number of a continuation
--- any byte that can be printed
+-- a is a capital letter, d a digit, e a digit but 0, n a capital letter or a digit, o one of these or a blank, t a byte of text, s one
+-- of these or a blank, k the number of a continuation, p any byte that can be printed
 unfoldable pub byteSets : List ByteSet
 byteSets =
     set "a" ("A" to "Z" ∷ []) ∷

@@ -25,7 +25,7 @@ course = upTo "3600" ++ (upTo "360" then one "T")
 
 -- year, then 01 to 13
 abbrev pub cycle : List (List ℕ)
-cycle = digits 2 then (one "0e" ++ (one "1" then upTo "3"))
+cycle = digits 2 then ((one "0" then notAllZero 1) ++ (one "1" then upTo "3"))
 
 -- columns 1 to 38, the same in a primary record and in a continuation
 unfoldable pub front : List Row
@@ -37,7 +37,7 @@ front =
     row 7 4 (text 4) ∷
     row 11 2 icao ∷
     row 13 1 (each "DEF") ∷
-    row 14 6 (one "tsssss") ∷
+    row 14 6 (all 1 "t" then all 5 "s") ∷
     guarded 20 1 (when 13 "D" (each "0123456FMSTV") ++ when 13 "E" (each "123456789FMS") ++ when 13 "F" (each "ABEFGIJKLMNPRTUVWXYZ")) ∷
     row 21 5 (orBlank 5 (text 5)) ∷
     row 26 1 (blanks 1) ∷

@@ -5,3 +5,4 @@ pub mod Rows
 pub mod Layout
 pub mod Kinds
 pub mod Table
+pub mod Words

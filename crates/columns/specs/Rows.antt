@@ -1,11 +1,12 @@
 -- Rows of a table of columns, and the first field of a record that holds nothing that its row allows.
 -- Assumes nothing.
-use Prim.Native.Nat.{ℕ, _-_}
+use Prim.Native.Nat.{ℕ, _+_, _-_, _≤_}
+use mathlib.Core.Path.{_≡_}
 use Prim.Native.Char.{Char, code}
-use mathlib.Core.Bool.{Bool, false, cond, _&&_, _||_}
+use mathlib.Core.Bool.{Bool, true, false, cond, _&&_, _||_}
 use mathlib.Core.List.{List, [], _∷_, map}
 use lib.Dec.{eqb}
-use lib.ListN.{getD}
+use lib.ListN.{getD, length}
 use Rattle.slices.specs.Part.{part}
 use Rattle.columns.specs.ByteSets.{fits}
 use Rattle.columns.specs.Patterns.{fitsAll}
@@ -69,3 +70,22 @@ columnOf r rec = r .column
 -- the first column of the leftmost row that is not right, or 0
 abbrev pub firstBad : List Row → List ℕ → ℕ
 firstBad = firstOf columnOf
+
+-- every row is right
+abbrev pub EveryRow : List Row → List ℕ → Type 0
+EveryRow [] rec = Unit {0}
+EveryRow (r ∷ rs) rec = (rowOk r rec ≡ true) × EveryRow rs rec
+
+-- column c begins the leftmost row that is not right: all rows before it are
+pub data Leftmost (rec : List ℕ) (c : ℕ) : List Row → Type 0 where
+  here : {r : Row} {rs : List Row} → rowOk r rec ≡ false → r .column ≡ c → Leftmost rec c (r ∷ rs)
+  there : {r : Row} {rs : List Row} → rowOk r rec ≡ true → Leftmost rec c rs → Leftmost rec c (r ∷ rs)
+
+-- the rows stand side by side from one column on up to another, and each pattern is as wide as its row
+abbrev pub Wide : ℕ → List Alternative → Type 0
+Wide w [] = Unit {0}
+Wide w (a ∷ alts) = (length (a .letters) ≡ w) × Wide w alts
+
+abbrev pub Tiles : ℕ → List Row → ℕ → Type 0
+Tiles from [] end = from ≡ end + 1
+Tiles from (r ∷ rs) end = (r .column ≡ from) × (1 ≤ r .width) × Wide (r .width) (r .alternatives) × Tiles (from + r .width) rs end

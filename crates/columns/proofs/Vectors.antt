@@ -1,0 +1,219 @@
+-- Worked vectors, by evaluation: a legal primary record and a legal continuation, changed in some columns, and the answer to each. Every
+-- row of paper 01's table has at least one good content and one bad one.
+-- Assumes nothing.
+use mathlib.Core.Path.{_≡_, refl}
+use mathlib.Core.Bool.{Bool, true, _&&_}
+use mathlib.Core.List.{List, [], _∷_, _++_}
+use Prim.Native.Nat.{ℕ, _-_}
+use Prim.Native.String.{String}
+use lib.Dec.{eqb}
+use lib.ListN.{take}
+use lib.Seq.{sets}
+use Rattle.slices.specs.Part.{part}
+use Rattle.columns.specs.ByteSets.{fits, fitsOf, byteSets, inRanges}
+use Rattle.columns.specs.Patterns.{fitsAll, codes, each, texts, _then_, textFrom, below, upToCodes, notAllZero}
+use Rattle.columns.specs.Terminators.{terminators}
+use Rattle.columns.specs.Rows.{stands, matches, firstOf}
+use Rattle.columns.specs.Layout.{front, leg, application, back, primary, continuation}
+use Rattle.columns.specs.Kinds.{kindOf, layoutOf, firstBadField}
+
+record Vector : Type 0 where
+  content : List ℕ
+  answer : ℕ
+
+infixl 80 _at_is_
+infix 75 _gives_
+-- a record with other content from a column on
+_at_is_ : List ℕ → ℕ → String → List ℕ
+rec at c is s = sets rec (c - 1) (codes s)
+
+_gives_ : List ℕ → ℕ → Vector
+rec gives n = record { content = rec; answer = n }
+
+right : List Vector → Bool
+right [] = true
+right (v ∷ vs) = eqb (firstBadField (v .content)) (v .answer) && right vs
+
+approach : List ℕ
+approach = codes "SUSAP KSEAK1FI16R  I      010FAFFYK1PC0E  F    CF ISEAK1      3410006016100040PI  + 02000     18000210-300                 123452013"
+
+notes : List ℕ
+notes = approach at 39 is "2" at 40 is " "
+
+-- columns 1 to 38
+ofFront : List Vector
+ofFront =
+    approach gives 0 ∷
+    approach at 1 is "T" gives 0 ∷
+    approach at 1 is "X" gives 1 ∷
+    approach at 2 is "A-1" gives 0 ∷
+    approach at 2 is "A  " gives 0 ∷
+    approach at 2 is "A 1" gives 2 ∷
+    approach at 2 is "   " gives 2 ∷
+    approach at 5 is "H" gives 5 ∷
+    approach at 6 is "A" gives 6 ∷
+    approach at 7 is "K   " gives 0 ∷
+    approach at 7 is " KSE" gives 7 ∷
+    approach at 11 is "2A" gives 0 ∷
+    approach at 11 is "K " gives 11 ∷
+    approach at 13 is "D" at 20 is "2" gives 0 ∷
+    approach at 13 is "P" gives 13 ∷
+    approach at 14 is "A-1 B " gives 0 ∷
+    approach at 14 is " ILS  " gives 14 ∷
+    approach at 14 is "ILS16/" gives 14 ∷
+    approach at 13 is "D" at 20 is "0" gives 0 ∷
+    approach at 13 is "E" at 20 is "9" gives 0 ∷
+    approach at 20 is "Z" gives 0 ∷
+    approach at 13 is "D" at 20 is "9" gives 20 ∷
+    approach at 13 is "E" at 20 is "0" gives 20 ∷
+    approach at 20 is "H" gives 20 ∷
+    approach at 20 is " " gives 20 ∷
+    approach at 21 is "ALL  " gives 0 ∷
+    approach at 21 is "A B  " gives 21 ∷
+    approach at 26 is "0" gives 26 ∷
+    approach at 27 is "001" gives 0 ∷
+    approach at 27 is "999" gives 0 ∷
+    approach at 27 is "000" gives 27 ∷
+    approach at 27 is " 10" gives 27 ∷
+    approach at 30 is "A    " gives 0 ∷
+    approach at 30 is "     " gives 0 ∷
+    approach at 30 is " A   " gives 30 ∷
+    approach at 35 is "  " gives 0 ∷
+    approach at 35 is "K " gives 35 ∷
+    approach at 37 is " " gives 0 ∷
+    approach at 37 is "1" gives 37 ∷
+    approach at 38 is " " gives 0 ∷
+    approach at 38 is "-" gives 38 ∷
+    []
+
+-- columns 39 to 123 of a primary record
+ofLeg : List Vector
+ofLeg =
+    approach at 39 is "1" gives 0 ∷
+    approach at 39 is "/" gives 39 ∷
+    approach at 39 is " " gives 39 ∷
+    approach at 40 is " " gives 0 ∷
+    approach at 40 is "B" gives 40 ∷
+    approach at 41 is "Y" gives 0 ∷
+    approach at 41 is "A" gives 41 ∷
+    approach at 42 is "S" gives 0 ∷
+    approach at 42 is "D" gives 42 ∷
+    approach at 43 is "M" gives 0 ∷
+    approach at 43 is "G" gives 43 ∷
+    approach at 44 is "E" gives 0 ∷
+    approach at 44 is "Y" gives 44 ∷
+    approach at 45 is "000" gives 0 ∷
+    approach at 45 is "01 " gives 45 ∷
+    approach at 48 is "HM" gives 0 ∷
+    approach at 48 is "TF" gives 0 ∷
+    approach at 48 is "XF" gives 48 ∷
+    approach at 48 is "  " gives 48 ∷
+    approach at 50 is "Y" gives 0 ∷
+    approach at 50 is "N" gives 50 ∷
+    approach at 51 is "I   " gives 0 ∷
+    approach at 51 is "I  A" gives 51 ∷
+    approach at 55 is "  " gives 0 ∷
+    approach at 55 is " K" gives 55 ∷
+    approach at 57 is "000000" gives 0 ∷
+    approach at 57 is "12345 " gives 57 ∷
+    approach at 63 is "3600" gives 0 ∷
+    approach at 63 is "    " gives 0 ∷
+    approach at 63 is "3601" gives 63 ∷
+    approach at 63 is "36 0" gives 63 ∷
+    approach at 67 is "9999" gives 0 ∷
+    approach at 67 is " 060" gives 67 ∷
+    approach at 71 is "3600" gives 0 ∷
+    approach at 71 is "360T" gives 0 ∷
+    approach at 71 is "000T" gives 0 ∷
+    approach at 71 is "3601" gives 71 ∷
+    approach at 71 is "361T" gives 71 ∷
+    approach at 75 is "0000" gives 0 ∷
+    approach at 48 is "HM" at 75 is "T010" gives 0 ∷
+    approach at 75 is "T010" gives 75 ∷
+    approach at 48 is "HM" at 75 is "T01 " gives 75 ∷
+    approach at 79 is " " gives 0 ∷
+    approach at 79 is "5" gives 79 ∷
+    approach at 80 is "0" gives 0 ∷
+    approach at 80 is "-" gives 80 ∷
+    approach at 81 is " A" gives 81 ∷
+    approach at 83 is "B" gives 0 ∷
+    approach at 83 is " " gives 0 ∷
+    approach at 83 is "@" gives 83 ∷
+    approach at 84 is "S" gives 0 ∷
+    approach at 84 is "B" gives 84 ∷
+    approach at 85 is "FL180" gives 0 ∷
+    approach at 85 is "-0120" gives 0 ∷
+    approach at 85 is "     " gives 0 ∷
+    approach at 85 is "-0000" gives 85 ∷
+    approach at 85 is " 1500" gives 85 ∷
+    approach at 90 is "-0001" gives 0 ∷
+    approach at 90 is "FL18 " gives 90 ∷
+    approach at 95 is "     " gives 0 ∷
+    approach at 95 is "FL180" gives 95 ∷
+    approach at 100 is "000" gives 0 ∷
+    approach at 100 is "21 " gives 100 ∷
+    approach at 103 is "-000" gives 0 ∷
+    approach at 103 is "0300" gives 103 ∷
+    approach at 107 is "CF16R" gives 0 ∷
+    approach at 107 is "CF 6R" gives 107 ∷
+    approach at 112 is "A" gives 0 ∷
+    approach at 112 is "+" gives 112 ∷
+    approach at 113 is "K1" gives 0 ∷
+    approach at 113 is "K-" gives 113 ∷
+    approach at 115 is "P" gives 0 ∷
+    approach at 115 is "p" gives 115 ∷
+    approach at 116 is "C" gives 0 ∷
+    approach at 116 is "_" gives 116 ∷
+    approach at 117 is "5" gives 0 ∷
+    approach at 117 is "." gives 117 ∷
+    approach at 118 is "-" gives 118 ∷
+    approach at 119 is "D" gives 0 ∷
+    approach at 119 is "/" gives 119 ∷
+    approach at 120 is "S" gives 0 ∷
+    approach at 120 is "=" gives 120 ∷
+    approach at 121 is "  A" gives 121 ∷
+    []
+
+-- columns 124 to 132, and the leftmost of several
+ofBack : List Vector
+ofBack =
+    approach at 124 is "00000" gives 0 ∷
+    approach at 124 is "1234 " gives 124 ∷
+    approach at 129 is "0001" gives 0 ∷
+    approach at 129 is "2013" gives 0 ∷
+    approach at 129 is "2014" gives 129 ∷
+    approach at 129 is "2000" gives 129 ∷
+    approach at 129 is "A001" gives 129 ∷
+    approach at 85 is "-0000" at 63 is "3601" at 129 is "2014" gives 63 ∷
+    []
+
+-- a continuation
+ofContinuation : List Vector
+ofContinuation =
+    notes gives 0 ∷
+    notes at 39 is "9" gives 0 ∷
+    notes at 39 is "Z" gives 0 ∷
+    notes at 40 is "P" gives 0 ∷
+    notes at 40 is "E" gives 40 ∷
+    notes at 41 is "~ any byte that can be printed, small letters too" gives 0 ∷
+    notes at 48 is "XF" gives 0 ∷
+    notes at 1 is "X" gives 1 ∷
+    notes at 13 is "D" gives 20 ∷
+    notes at 27 is "000" gives 27 ∷
+    notes at 124 is "1234 " gives 124 ∷
+    notes at 129 is "2014" gives 129 ∷
+    []
+
+-- slices of any other length: a byte that is missing is legal nowhere, and what is past column 132 is not looked at
+ofAnySlice : List Vector
+ofAnySlice =
+    [] gives 1 ∷
+    take 1 approach gives 2 ∷
+    take 38 approach gives 39 ∷
+    take 131 approach gives 129 ∷
+    (approach ++ codes "x") gives 0 ∷
+    []
+
+worked : right (ofFront ++ ofLeg ++ ofBack ++ ofContinuation ++ ofAnySlice) ≡ true
+unfolding ofFront ofLeg ofBack ofContinuation ofAnySlice right _at_is_ _gives_ approach notes firstBadField layoutOf kindOf firstOf matches stands fitsAll fits fitsOf byteSets inRanges part primary continuation front leg application back codes each texts _then_ textFrom below upToCodes notAllZero terminators
+worked = refl
