@@ -1,15 +1,15 @@
 -- What a row says of its field, what the answer of a walk over rows means, and what side by side means.
 -- Assumes nothing.
 use mathlib.Core.Path.{_≡_, refl, sym, ap, _∙_}
-use mathlib.Core.Logic.{_↔_, _⊎_}
-use mathlib.Core.Bool.{Bool, true, _&&_, _||_, or-assoc, and-or-distrib-left, and-false}
+use mathlib.Core.Logic.{_↔_, _⊎_, ⊎-elim}
+use mathlib.Core.Bool.{Bool, true, _&&_, _||_, false≢true, or-assoc, and-or-distrib-left, and-false}
 use mathlib.Core.List.{List, [], _∷_, _++_, List·Memᴰ, List·Memᴰ·head, List·Memᴰ·tail}
 use Prim.Native.Nat.{ℕ, _+_, _≤_, _<_}
 use Prim.Native.Char.{Char, code}
 use native.Mathlib.Omega.{arith}
 use native.Mathlib.Decide.{decLt}
 use borrow.Author.Tests.{ne-eqb}
-use Rattle.slices.proofs.Cases.{split, both, and-left, and-right}
+use Rattle.slices.proofs.Cases.{split, both, and-left, and-right, either, or-left, or-right}
 use Rattle.columns.specs.ByteSets.{fits}
 use Rattle.columns.specs.Patterns.{fitsAll, anyOf}
 use Rattle.columns.specs.Rows.{Alternative, Row, row, always, when, byteIn, stands, alternativeOk, matches, fieldAt, rowOk, firstOf, firstBad, EveryRow, Leftmost, here, there, Tiles}
@@ -62,6 +62,26 @@ module _ (rec f : List ℕ) where
 -- a row without a guard says of its field what its patterns say
 pub row-says : {ps : List (List ℕ)} {P : List ℕ → Type 0} (c w : ℕ) (rec : List ℕ) → Says ps P → (rowOk (row c w ps) rec ≡ true) ↔ P (fieldAt c w rec)
 row-says c w rec s = always-says rec (fieldAt c w rec) s
+
+-- a row is right exactly when its field fits an alternative of the row that stands
+module _ (rec f : List ℕ) where
+  abbrev Matched : List Alternative → Type 0
+  Matched alts = (a : Alternative) × List·Memᴰ a alts × (alternativeOk a rec f ≡ true)
+
+  matched-to : (alts : List Alternative) → matches alts rec f ≡ true → Matched alts
+  unfolding matches
+  matched-to [] e = absurd (false≢true e)
+  matched-to (a ∷ alts) e =
+      ⊎-elim (λ x. (a, List·Memᴰ·head refl, x)) (λ x. let r = matched-to alts x in (r .0, List·Memᴰ·tail (r .1), r .2))
+      (either (alternativeOk a rec f) (matches alts rec f) e)
+
+  matched-from : (alts : List Alternative) (a : Alternative) → List·Memᴰ a alts → alternativeOk a rec f ≡ true → matches alts rec f ≡ true
+  unfolding matches
+  matched-from (b ∷ alts) a (List·Memᴰ·head e) x = or-left (alternativeOk b rec f) (matches alts rec f) (ap (λ (c : Alternative). alternativeOk c rec f) (sym e) ∙ x)
+  matched-from (b ∷ alts) a (List·Memᴰ·tail m) x = or-right (alternativeOk b rec f) (matches alts rec f) (matched-from alts a m x)
+
+  pub matched : (alts : List Alternative) → (matches alts rec f ≡ true) ↔ Matched alts
+  matched alts = (matched-to alts, λ r. matched-from alts (r .0) (r .1) (r .2))
 
 -- ---- the walk
 

@@ -5,4 +5,7 @@ use mathlib.Core.List.{List, [], _∷_}
 
 unfoldable pub terminators : List String
 terminators =
-    "AF" ∷ "CA" ∷ "CD" ∷ "CF" ∷ "CI" ∷ "CR" ∷ "DF" ∷ "FA" ∷ "FC" ∷ "FD" ∷ "FM" ∷ "HA" ∷ "HF" ∷ "HM" ∷ "IF" ∷ "PI" ∷ "RF" ∷ "TF" ∷ "VA" ∷ "VD" ∷ "VI" ∷ "VM" ∷ "VR" ∷ []
+    "AF" ∷ "CA" ∷ "CD" ∷ "CF" ∷ "CI" ∷ "CR" ∷
+    "DF" ∷ "FA" ∷ "FC" ∷ "FD" ∷ "FM" ∷ "HA" ∷
+    "HF" ∷ "HM" ∷ "IF" ∷ "PI" ∷ "RF" ∷ "TF" ∷
+    "VA" ∷ "VD" ∷ "VI" ∷ "VM" ∷ "VR" ∷ []

@@ -7,7 +7,7 @@ use Prim.Native.Nat.{ℕ, zero, suc, _+_, _≤_, _<_}
 use native.Mathlib.Omega.{arith}
 use native.Mathlib.Numerals.{add-one}
 use native.Mathlib.Nat.{le-of-suc-le-suc, not-suc-le-zero}
-use lib.ListN.{length, getD, drop, drop-of-length-le}
+use lib.ListN.{length, getD, drop, drop-of-length-le, length-drop}
 use lib.Seq.{drop-cons}
 use Rattle.slices.specs.Search.{firstAt}
 use Rattle.slices.proofs.Cases.{split}
@@ -17,6 +17,10 @@ module _ {A : Type 0} (p : A → Bool) where
   unfolding firstAt
   first-within [] = omega arith
   first-within (x ∷ xs) = split (p x) (λ e. rw e (omega arith)) (λ e. rw e (omega (arith, first-within xs)))
+
+  -- a search from a place within the list ends within it
+  pub search-within : (xs : List A) (from : ℕ) {i : ℕ} → i ≡ from + firstAt p (drop from xs) → from ≤ length xs → i ≤ length xs
+  search-within xs from e h = omega (arith, first-within (drop from xs), length-drop from xs)
 
   -- what stands before the answer does not pass
   pub first-before : (xs : List A) (d : A) (k : ℕ) → k < firstAt p xs → p (getD xs k d) ≡ false

@@ -24,10 +24,19 @@ byte-after-requires-2 : tie.Need-byte-after-requires-2 Inv-loop μ-loop
 byte-after-requires-2 c κs = search needs
 
 returns : tie.Need-returns Inv-loop μ-loop
-returns c = sym (c .before .before .before .before .loop .inv .1 ∙ comparing-less _ _ _ _ _ _ (c .before .before .before .loop-test .taken) (c .before .before .byte-after .ensures) (c .before .byte-after2 .ensures) (c .if1 .taken))
+returns c =
+    let turn = c .before .before .before in
+    sym
+    (turn .before .loop .inv .1
+    ∙ comparing-less _ _ _ _ _ _ (turn .loop-test .taken) (c .before .before .byte-after .ensures) (c .before .byte-after2 .ensures) (c .if1 .taken))
 
 returns-2 : tie.Need-returns-2 Inv-loop μ-loop
-returns-2 c = sym (c .before .before .before .before .before .loop .inv .1 ∙ comparing-greater _ _ _ _ _ _ (c .before .before .before .before .loop-test .taken) (c .before .before .before .byte-after .ensures) (c .before .before .byte-after2 .ensures) (c .if2 .taken))
+returns-2 c =
+    let turn = c .before .before .before .before in
+    let reads = c .before .before in
+    sym
+    (turn .before .loop .inv .1
+    ∙ comparing-greater _ _ _ _ _ _ (turn .loop-test .taken) (reads .before .byte-after .ensures) (reads .byte-after2 .ensures) (c .if2 .taken))
 
 add-k : tie.Need-add-k Inv-loop μ-loop
 add-k c = search needs
@@ -36,7 +45,13 @@ loop-less : tie.Need-loop-less Inv-loop μ-loop
 loop-less c = search needs
 
 loop-again : tie.Need-loop-again Inv-loop μ-loop
-loop-again c = (search needs, c .before .before .before .before .before .loop .inv .1 ∙ comparing-next _ _ _ _ _ _ (c .before .before .before .before .loop-test .taken) (c .before .before .before .byte-after .ensures) (c .before .before .byte-after2 .ensures) (c .before .if1 .left) (c .if2 .left))
+loop-again c =
+    let turn = c .before .before .before .before in
+    let reads = c .before .before in (
+      search needs,
+      turn .before .loop .inv .1
+          ∙ comparing-next _ _ _ _ _ _ (turn .loop-test .taken) (reads .before .byte-after .ensures) (reads .byte-after2 .ensures) (c .before .if1 .left) (c .if2 .left),
+    )
 
 returns-3 : tie.Need-returns-3 Inv-loop μ-loop
 returns-3 c = sym (c .before .loop .inv .1 ∙ comparing-end _ _ _ _ _ _ (c .loop-test .left))

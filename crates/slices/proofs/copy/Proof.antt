@@ -31,7 +31,12 @@ loop-less : tie.Need-loop-less Inv-loop μ-loop
 loop-less c = search needs
 
 loop-again : tie.Need-loop-again Inv-loop μ-loop
-loop-again c = (search needs, c .before .before .before .before .before .before .loop .inv .1 ∙ copied-next _ _ _ _ _ _ (c .before .before .before .before .before .loop-test .taken) (c .before .before .before .before .byte-after .ensures) (c .before .before .put-after .ensures))
+loop-again c =
+    let turn = c .before .before .before .before .before in (
+      search needs,
+      turn .before .loop .inv .1
+          ∙ copied-next _ _ _ _ _ _ (turn .loop-test .taken) (c .before .before .before .before .byte-after .ensures) (c .before .before .put-after .ensures),
+    )
 
 same-length : tie.Need-same-length Inv-loop μ-loop
 same-length c = ap length (sym (c .before .loop .inv .1 ∙ copied-end _ _ _ _ _ _ (c .loop-test .left))) ∙ simp length-sets

@@ -30,7 +30,9 @@ loop-less : tie.Need-loop-less Inv-loop μ-loop
 loop-less c = search needs
 
 loop-again : tie.Need-loop-again Inv-loop μ-loop
-loop-again c = (search needs, c .before .before .before .loop .inv .1 ∙ blank-next _ _ _ _ (c .before .before .loop-test .taken) (c .before .byte-after .ensures) (c .if1 .left))
+loop-again c =
+    let turn = c .before .before in
+    (search needs, turn .before .loop .inv .1 ∙ blank-next _ _ _ _ (turn .loop-test .taken) (c .before .byte-after .ensures) (c .if1 .left))
 
 returns-2 : tie.Need-returns-2 Inv-loop μ-loop
 returns-2 c = sym (c .before .loop .inv .1 ∙ blank-end _ _ _ _ (c .loop-test .left))

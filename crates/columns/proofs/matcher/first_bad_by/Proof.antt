@@ -10,7 +10,12 @@ use Rattle.columns.proofs.matcher.first_bad_by.Statement.{statement}
 use Rattle.columns.proofs.matcher.first_bad_by.Tie as tie
 
 abbrev Inv-loop : tie.InvT-loop
-Inv-loop t rec rows p₀ at₀ i₀ p at i = (rows < 256) × (i ≤ rows) × (p ≤ 1 + 66000 * i) × (at ≤ 255 * i) × (firstBad (decode t) rec ≡ rowsLeft columnOf t rec rows p at i)
+Inv-loop t rec rows p₀ at₀ i₀ p at i =
+    (rows < 256)
+    × (i ≤ rows)
+    × (p ≤ 1 + 66000 * i)
+    × (at ≤ 255 * i)
+    × (firstBad (decode t) rec ≡ rowsLeft columnOf t rec rows p at i)
 
 abbrev μ-loop : tie.MeasureT-loop
 μ-loop t rec rows p₀ at₀ i₀ p at i = rows - i
@@ -67,13 +72,27 @@ loop-less : tie.Need-loop-less Inv-loop μ-loop
 loop-less c = search needs
 
 loop-again : tie.Need-loop-again Inv-loop μ-loop
-loop-again c = (search needs, search needs, omega (arith, small (c .before .before .byte-at3 .result) (c .before .before .before .byte-at2 .result) (search needs) (search needs)), search needs, c .before .before .before .before .before .loop .inv .4 ∙ rows-go columnOf _ _ _ _ _ _ (c .before .before .before .before .loop-test .taken) (c .before .before .before .byte-at2 .ensures) (c .before .before .byte-at3 .ensures) (c .before .fits-row .ensures) (c .if1 .taken))
+loop-again c =
+    let turn = c .before .before .before .before in
+    let reads = c .before .before in (
+      search needs,
+      search needs,
+      omega (arith, small (reads .byte-at3 .result) (reads .before .byte-at2 .result) (search needs) (search needs)),
+      search needs,
+      turn .before .loop .inv .4
+          ∙ rows-go columnOf _ _ _ _ _ _ (turn .loop-test .taken) (reads .before .byte-at2 .ensures) (reads .byte-at3 .ensures) (c .before .fits-row .ensures) (c .if1 .taken),
+    )
 
 add-result : tie.Need-add-result Inv-loop μ-loop
 add-result c = search needs
 
 returns : tie.Need-returns Inv-loop μ-loop
-returns c = sym (c .before .before .before .before .before .loop .inv .4 ∙ rows-bad columnOf _ _ _ _ _ _ (c .before .before .before .before .loop-test .taken) (c .before .before .before .byte-at2 .ensures) (c .before .before .byte-at3 .ensures) (c .before .fits-row .ensures) (c .if1 .left))
+returns c =
+    let turn = c .before .before .before .before in
+    let reads = c .before .before in
+    sym
+    (turn .before .loop .inv .4
+    ∙ rows-bad columnOf _ _ _ _ _ _ (turn .loop-test .taken) (reads .before .byte-at2 .ensures) (reads .byte-at3 .ensures) (c .before .fits-row .ensures) (c .if1 .left))
 
 returns-2 : tie.Need-returns-2 Inv-loop μ-loop
 returns-2 c = sym (c .before .loop .inv .4 ∙ rows-end columnOf _ _ _ _ _ _ (c .loop-test .left))

@@ -23,10 +23,15 @@ fits-pattern-requires : tie.Need-fits-pattern-requires
 fits-pattern-requires c κs = search needs
 
 returns : tie.Need-returns
-returns c = guard-stood _ _ _ _ _ (c .before .before .before .before .byte-at .ensures) (c .before .before .before .byte-at2 .ensures) (c .before .before .guard-stands .ensures) (c .before .if1 .taken) (c .fits-pattern .ensures)
+returns c =
+    let reads = c .before .before .before in
+    guard-stood _ _ _ _ _ (reads .before .byte-at .ensures) (reads .byte-at2 .ensures) (c .before .before .guard-stands .ensures) (c .before .if1 .taken) (c .fits-pattern .ensures)
 
 returns-2 : tie.Need-returns-2
-returns-2 c = let s = c .before .before .before .before .before .before .args in guard-failed (s .t .now) (s .rec .now) (s .at) (s .p) (s .w) (c .before .before .before .byte-at .ensures) (c .before .before .byte-at2 .ensures) (c .before .guard-stands .ensures) (c .if1 .left)
+returns-2 c =
+    let reads = c .before .before in
+    let s = reads .before .before .before .before .args in
+    guard-failed (s .t .now) (s .rec .now) (s .at) (s .p) (s .w) (reads .before .byte-at .ensures) (reads .byte-at2 .ensures) (c .before .guard-stands .ensures) (c .if1 .left)
 
 pub fits-alternative-spec : {M : Type 1} → statement M
 fits-alternative-spec =

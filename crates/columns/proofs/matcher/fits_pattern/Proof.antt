@@ -39,10 +39,21 @@ loop-less : tie.Need-loop-less Inv-loop μ-loop
 loop-less c = search needs
 
 loop-again : tie.Need-loop-again Inv-loop μ-loop
-loop-again c = (search needs, c .before .before .before .before .before .loop .inv .1 ∙ letters-go _ _ _ _ _ _ (c .before .before .before .before .loop-test .taken) (c .before .before .before .byte-at .ensures) (c .before .before .byte-at2 .ensures) (c .before .in-set .ensures) (c .if1 .taken))
+loop-again c =
+    let turn = c .before .before .before .before in
+    let reads = c .before .before in (
+      search needs,
+      turn .before .loop .inv .1
+          ∙ letters-go _ _ _ _ _ _ (turn .loop-test .taken) (reads .before .byte-at .ensures) (reads .byte-at2 .ensures) (c .before .in-set .ensures) (c .if1 .taken),
+    )
 
 returns : tie.Need-returns Inv-loop μ-loop
-returns c = sym (c .before .before .before .before .before .loop .inv .1 ∙ letters-stop _ _ _ _ _ _ (c .before .before .before .before .loop-test .taken) (c .before .before .before .byte-at .ensures) (c .before .before .byte-at2 .ensures) (c .before .in-set .ensures) (c .if1 .left))
+returns c =
+    let turn = c .before .before .before .before in
+    let reads = c .before .before in
+    sym
+    (turn .before .loop .inv .1
+    ∙ letters-stop _ _ _ _ _ _ (turn .loop-test .taken) (reads .before .byte-at .ensures) (reads .byte-at2 .ensures) (c .before .in-set .ensures) (c .if1 .left))
 
 returns-2 : tie.Need-returns-2 Inv-loop μ-loop
 returns-2 c = sym (c .before .loop .inv .1 ∙ letters-end _ _ _ _ _ _ (c .loop-test .left))

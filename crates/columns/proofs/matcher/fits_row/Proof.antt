@@ -10,7 +10,10 @@ use Rattle.columns.proofs.matcher.fits_row.Statement.{statement}
 use Rattle.columns.proofs.matcher.fits_row.Tie as tie
 
 abbrev Inv-loop : tie.InvT-loop
-Inv-loop t rec at w first n p₀ j₀ p j = (j ≤ n) × (p ≤ first + 257 * j) × (matches (alternativesAt t n w first) rec (part w at rec) ≡ alternativesLeft t rec at n w p j)
+Inv-loop t rec at w first n p₀ j₀ p j =
+    (j ≤ n)
+    × (p ≤ first + 257 * j)
+    × (matches (alternativesAt t n w first) rec (part w at rec) ≡ alternativesLeft t rec at n w p j)
 
 abbrev μ-loop : tie.MeasureT-loop
 μ-loop t rec at w first n p₀ j₀ p j = n - j
@@ -22,7 +25,9 @@ fits-alternative-requires : tie.Need-fits-alternative-requires Inv-loop μ-loop
 fits-alternative-requires c κs = search needs
 
 returns : tie.Need-returns Inv-loop μ-loop
-returns c = sym (c .before .before .before .loop .inv .2 ∙ alternatives-found _ _ _ _ _ _ _ (c .before .before .loop-test .taken) (c .before .fits-alternative .ensures) (c .if1 .taken))
+returns c =
+    let turn = c .before .before in
+    sym (turn .before .loop .inv .2 ∙ alternatives-found _ _ _ _ _ _ _ (turn .loop-test .taken) (c .before .fits-alternative .ensures) (c .if1 .taken))
 
 add-p : tie.Need-add-p Inv-loop μ-loop
 add-p c = search needs
@@ -37,7 +42,12 @@ loop-less : tie.Need-loop-less Inv-loop μ-loop
 loop-less c = search needs
 
 loop-again : tie.Need-loop-again Inv-loop μ-loop
-loop-again c = (search needs, search needs, c .before .before .before .loop .inv .2 ∙ alternatives-go _ _ _ _ _ _ _ (c .before .before .loop-test .taken) (c .before .fits-alternative .ensures) (c .if1 .left))
+loop-again c =
+    let turn = c .before .before in (
+      search needs,
+      search needs,
+      turn .before .loop .inv .2 ∙ alternatives-go _ _ _ _ _ _ _ (turn .loop-test .taken) (c .before .fits-alternative .ensures) (c .if1 .left),
+    )
 
 returns-2 : tie.Need-returns-2 Inv-loop μ-loop
 returns-2 c = sym (c .before .loop .inv .2 ∙ alternatives-end _ _ _ _ _ _ _ (c .loop-test .left))
