@@ -21,19 +21,17 @@ abbrev pub set : Char → List Range → ByteSet
 set x rs = record { letter = code x; ranges = rs }
 
 infix 70 _to_
--- a is a capital letter, d a digit, e a digit but 0, n a capital letter or a digit, o one of these or a blank, t a byte of text, s one
--- of these or a blank, k the number of a continuation, p any byte that can be printed
 unfoldable pub byteSets : List ByteSet
 byteSets =
-    set "a" ("A" to "Z" ∷ []) ∷
-    set "d" ("0" to "9" ∷ []) ∷
-    set "e" ("1" to "9" ∷ []) ∷
-    set "n" ("A" to "Z" ∷ "0" to "9" ∷ []) ∷
-    set "o" ("A" to "Z" ∷ "0" to "9" ∷ " " to " " ∷ []) ∷
-    set "t" ("A" to "Z" ∷ "0" to "9" ∷ "-" to "-" ∷ []) ∷
-    set "s" ("A" to "Z" ∷ "0" to "9" ∷ "-" to "-" ∷ " " to " " ∷ []) ∷
-    set "k" ("2" to "9" ∷ "A" to "Z" ∷ []) ∷
-    set "p" (" " to "~" ∷ []) ∷
+    set "a" ("A" to "Z" ∷ []) ∷  -- a capital letter
+    set "d" ("0" to "9" ∷ []) ∷  -- a digit
+    set "e" ("1" to "9" ∷ []) ∷  -- a digit but 0
+    set "n" ("A" to "Z" ∷ "0" to "9" ∷ []) ∷  -- a capital letter or a digit
+    set "o" ("A" to "Z" ∷ "0" to "9" ∷ " " to " " ∷ []) ∷  -- .. or a blank
+    set "t" ("A" to "Z" ∷ "0" to "9" ∷ "-" to "-" ∷ []) ∷  -- text: a capital letter, a digit or minus
+    set "s" ("A" to "Z" ∷ "0" to "9" ∷ "-" to "-" ∷ " " to " " ∷ []) ∷  -- .. or a blank
+    set "k" ("2" to "9" ∷ "A" to "Z" ∷ []) ∷  -- the number of a continuation
+    set "p" (" " to "~" ∷ []) ∷  -- any byte that can be printed
     []
 
 abbrev pub within : ℕ → ℕ → ℕ → Bool

@@ -30,68 +30,68 @@ cycle = digits 2 then ((one "0" then notAllZero 1) ++ (one "1" then upTo "3"))
 -- columns 1 to 38, the same in a primary record and in a continuation
 unfoldable pub front : List Row
 front =
-    row 1 1 (each "ST") ∷
-    row 2 3 (text 3) ∷
-    row 5 1 (one "P") ∷
+    row 1 1 (each "ST") ∷  -- record type: standard or tailored
+    row 2 3 (text 3) ∷  -- area or customer code
+    row 5 1 (one "P") ∷  -- section: airport
     row 6 1 (blanks 1) ∷
-    row 7 4 (text 4) ∷
-    row 11 2 icao ∷
-    row 13 1 (each "DEF") ∷
-    row 14 6 (all 1 "t" then all 5 "s") ∷
-    guarded 20 1 (when 13 "D" (each "0123456FMSTV") ++ when 13 "E" (each "123456789FMS") ++ when 13 "F" (each "ABEFGIJKLMNPRTUVWXYZ")) ∷
-    row 21 5 (orBlank 5 (text 5)) ∷
+    row 7 4 (text 4) ∷  -- airport
+    row 11 2 icao ∷  -- its ICAO code
+    row 13 1 (each "DEF") ∷  -- subsection: departure, arrival, approach
+    row 14 6 (all 1 "t" then all 5 "s") ∷  -- procedure
+    guarded 20 1 (when 13 "D" (each "0123456FMSTV") ++ when 13 "E" (each "123456789FMS") ++ when 13 "F" (each "ABEFGIJKLMNPRTUVWXYZ")) ∷  -- route type, by subsection
+    row 21 5 (orBlank 5 (text 5)) ∷  -- transition
     row 26 1 (blanks 1) ∷
-    row 27 3 (notAllZero 3) ∷
-    row 30 5 (orBlank 5 (text 5)) ∷
-    row 35 2 (orBlank 2 icao) ∷
-    row 37 1 (orBlank 1 (all 1 "a")) ∷
-    row 38 1 letterDigitBlank ∷
+    row 27 3 (notAllZero 3) ∷  -- sequence number
+    row 30 5 (orBlank 5 (text 5)) ∷  -- fix
+    row 35 2 (orBlank 2 icao) ∷  -- its ICAO code
+    row 37 1 (orBlank 1 (all 1 "a")) ∷  -- its section
+    row 38 1 letterDigitBlank ∷  -- its subsection
     []
 
 -- columns 124 to 132, the same in both
 unfoldable pub back : List Row
 back =
-    row 124 5 (digits 5) ∷
-    row 129 4 cycle ∷
+    row 124 5 (digits 5) ∷  -- file record number
+    row 129 4 cycle ∷  -- cycle
     []
 
 -- columns 39 to 123 of a primary record
 unfoldable pub leg : List Row
 leg =
-    row 39 1 (each "01") ∷
-    row 40 1 (each "AEFGHNPRTV ") ∷
+    row 39 1 (each "01") ∷  -- continuation number
+    row 40 1 (each "AEFGHNPRTV ") ∷  -- description codes
     row 41 1 (each "BEUY ") ∷
     row 42 1 (each "ABCGMPS ") ∷
     row 43 1 (each "ABCDEFHIM ") ∷
-    row 44 1 (each "LRE ") ∷
-    row 45 3 (orBlank 3 (digits 3)) ∷
-    row 48 2 (texts terminators) ∷
-    row 50 1 (each "Y ") ∷
-    row 51 4 (orBlank 4 (text 4)) ∷
-    row 55 2 (orBlank 2 icao) ∷
-    row 57 6 (orBlank 6 (digits 6)) ∷
-    row 63 4 (orBlank 4 (upTo "3600")) ∷
-    row 67 4 (orBlank 4 (digits 4)) ∷
-    row 71 4 (orBlank 4 course) ∷
-    guarded 75 4 (always (orBlank 4 (digits 4)) ++ when 48 "H" (one "T" then digits 3)) ∷
-    row 79 1 (orBlank 1 (all 1 "a")) ∷
-    row 80 1 letterDigitBlank ∷
+    row 44 1 (each "LRE ") ∷  -- turn
+    row 45 3 (orBlank 3 (digits 3)) ∷  -- RNP
+    row 48 2 (texts terminators) ∷  -- path and terminator
+    row 50 1 (each "Y ") ∷  -- turn direction valid
+    row 51 4 (orBlank 4 (text 4)) ∷  -- recommended navaid
+    row 55 2 (orBlank 2 icao) ∷  -- its ICAO code
+    row 57 6 (orBlank 6 (digits 6)) ∷  -- arc radius, thousandths of a mile
+    row 63 4 (orBlank 4 (upTo "3600")) ∷  -- theta, tenths of a degree
+    row 67 4 (orBlank 4 (digits 4)) ∷  -- rho, tenths of a mile
+    row 71 4 (orBlank 4 course) ∷  -- course
+    guarded 75 4 (always (orBlank 4 (digits 4)) ++ when 48 "H" (one "T" then digits 3)) ∷  -- distance, tenths of a mile; T and minutes on HA, HF, HM
+    row 79 1 (orBlank 1 (all 1 "a")) ∷  -- the navaid's section
+    row 80 1 letterDigitBlank ∷  -- its subsection
     row 81 2 (blanks 2) ∷
-    row 83 1 (each "+-BCGHIJV ") ∷
-    row 84 1 (each "AS ") ∷
-    row 85 5 (orBlank 5 altitude) ∷
-    row 90 5 (orBlank 5 altitude) ∷
-    row 95 5 (orBlank 5 (digits 5)) ∷
-    row 100 3 (orBlank 3 (digits 3)) ∷
-    row 103 4 (orBlank 4 (one "-" then digits 3)) ∷
-    row 107 5 (orBlank 5 (text 5)) ∷
-    row 112 1 letterDigitBlank ∷
-    row 113 2 (orBlank 2 icao) ∷
-    row 115 1 (orBlank 1 (all 1 "a")) ∷
-    row 116 1 letterDigitBlank ∷
-    row 117 1 letterDigitBlank ∷
+    row 83 1 (each "+-BCGHIJV ") ∷  -- altitude description
+    row 84 1 (each "AS ") ∷  -- ATC indicator
+    row 85 5 (orBlank 5 altitude) ∷  -- altitude
+    row 90 5 (orBlank 5 altitude) ∷  -- second altitude
+    row 95 5 (orBlank 5 (digits 5)) ∷  -- transition altitude
+    row 100 3 (orBlank 3 (digits 3)) ∷  -- speed
+    row 103 4 (orBlank 4 (one "-" then digits 3)) ∷  -- vertical angle, hundredths
+    row 107 5 (orBlank 5 (text 5)) ∷  -- centre fix
+    row 112 1 letterDigitBlank ∷  -- multiple code
+    row 113 2 (orBlank 2 icao) ∷  -- ICAO code
+    row 115 1 (orBlank 1 (all 1 "a")) ∷  -- section
+    row 116 1 letterDigitBlank ∷  -- subsection
+    row 117 1 letterDigitBlank ∷  -- GPS or FMS indication
     row 118 1 (blanks 1) ∷
-    row 119 1 letterDigitBlank ∷
+    row 119 1 letterDigitBlank ∷  -- approach route qualifiers
     row 120 1 letterDigitBlank ∷
     row 121 3 (blanks 3) ∷
     []
@@ -99,9 +99,9 @@ leg =
 -- columns 39 to 123 of a continuation
 unfoldable pub application : List Row
 application =
-    row 39 1 (all 1 "k") ∷
-    row 40 1 (each "PS ") ∷
-    row 41 83 (all 83 "p") ∷
+    row 39 1 (all 1 "k") ∷  -- continuation number
+    row 40 1 (each "PS ") ∷  -- application
+    row 41 83 (all 83 "p") ∷  -- kept as they are
     []
 
 unfoldable pub primary : List Row

@@ -6,16 +6,16 @@ ghost use Rattle.columns.specs.Patterns.{fitsAll};
 ghost use Rattle.columns.specs.Rows.{stands, alternativeOk, matches, firstBad};
 ghost use Rattle.columns.specs.Table.{alternativeAt, alternativesAt, decode};
 use crate::byte_sets::in_set;
+use slices::byte_after;
 use slices::byte_at;
 
 // Whether the w letters of the pattern at p fit the record's bytes from index `at` on.
 fn fits_pattern(t: &[u8], rec: &[u8], at: usize, p: usize, w: usize) -> bool
-    requires { ⌜ (at < 65536) × (p < 33554432) × (w < 256) ⌝ }
     ensures { λ r. ⌜ r ≡ fitsAll (part w p (now (t .entry))) (part w at (now (rec .entry))) ⌝ }
 {
     let mut k = 0;
     while k < w {
-        if in_set(byte_at(t, p + k), byte_at(rec, at + k)) {
+        if in_set(byte_after(t, p, k), byte_after(rec, at, k)) {
             k += 1;
         } else {
             return false;
@@ -36,7 +36,7 @@ fn guard_stands(rec: &[u8], column: u8, c: u8) -> bool
 
 // Whether the alternative at p stands and fits the record's w bytes from index `at` on.
 fn fits_alternative(t: &[u8], rec: &[u8], at: usize, p: usize, w: usize) -> bool
-    requires { ⌜ (at < 65536) × (p < 33554000) × (w < 256) ⌝ }
+    requires { ⌜ p < 33554432 ⌝ }
     ensures { λ r. ⌜ r ≡ alternativeOk (alternativeAt (now (t .entry)) w p) (now (rec .entry)) (part w at (now (rec .entry))) ⌝ }
 {
     if guard_stands(rec, byte_at(t, p), byte_at(t, p + 1)) {
@@ -46,9 +46,9 @@ fn fits_alternative(t: &[u8], rec: &[u8], at: usize, p: usize, w: usize) -> bool
     }
 }
 
-// Whether one of the n alternatives from p on stands and fits the record's w bytes from index `at` on.
+// Whether one of the n alternatives from `first` on stands and fits the record's w bytes from index `at` on.
 fn fits_row(t: &[u8], rec: &[u8], at: usize, w: usize, first: usize, n: usize) -> bool
-    requires { ⌜ (at < 65536) × (w < 256) × (first < 16900000) × (n < 256) ⌝ }
+    requires { ⌜ (w < 256) × (first < 16900000) × (n < 256) ⌝ }
     ensures { λ r. ⌜ r ≡ matches (alternativesAt (now (t .entry)) n w first) (now (rec .entry)) (part w at (now (rec .entry))) ⌝ }
 {
     let mut p = first;

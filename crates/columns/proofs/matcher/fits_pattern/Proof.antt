@@ -17,17 +17,11 @@ abbrev μ-loop : tie.MeasureT-loop
 loop-holds : tie.Need-loop-holds Inv-loop μ-loop
 loop-holds c = (search needs, letters-start _ _ _ _ _)
 
-add-byte-at : tie.Need-add-byte-at Inv-loop μ-loop
-add-byte-at c = search needs
+byte-after-requires : tie.Need-byte-after-requires Inv-loop μ-loop
+byte-after-requires c κs = search needs
 
-byte-at-requires : tie.Need-byte-at-requires Inv-loop μ-loop
-byte-at-requires c κs = search needs
-
-add-byte-at-2 : tie.Need-add-byte-at-2 Inv-loop μ-loop
-add-byte-at-2 c = search needs
-
-byte-at-requires-2 : tie.Need-byte-at-requires-2 Inv-loop μ-loop
-byte-at-requires-2 c κs = search needs
+byte-after-requires-2 : tie.Need-byte-after-requires-2 Inv-loop μ-loop
+byte-after-requires-2 c κs = search needs
 
 in-set-requires : tie.Need-in-set-requires Inv-loop μ-loop
 in-set-requires c κs = search needs
@@ -44,7 +38,7 @@ loop-again c =
     let reads = c .before .before in (
       search needs,
       turn .before .loop .inv .1
-          ∙ letters-go _ _ _ _ _ _ (turn .loop-test .taken) (reads .before .byte-at .ensures) (reads .byte-at2 .ensures) (c .before .in-set .ensures) (c .if1 .taken),
+          ∙ letters-go _ _ _ _ _ _ (turn .loop-test .taken) (reads .before .byte-after .ensures) (reads .byte-after2 .ensures) (c .before .in-set .ensures) (c .if1 .taken),
     )
 
 returns : tie.Need-returns Inv-loop μ-loop
@@ -53,7 +47,7 @@ returns c =
     let reads = c .before .before in
     sym
     (turn .before .loop .inv .1
-    ∙ letters-stop _ _ _ _ _ _ (turn .loop-test .taken) (reads .before .byte-at .ensures) (reads .byte-at2 .ensures) (c .before .in-set .ensures) (c .if1 .left))
+    ∙ letters-stop _ _ _ _ _ _ (turn .loop-test .taken) (reads .before .byte-after .ensures) (reads .byte-after2 .ensures) (c .before .in-set .ensures) (c .if1 .left))
 
 returns-2 : tie.Need-returns-2 Inv-loop μ-loop
 returns-2 c = sym (c .before .loop .inv .1 ∙ letters-end _ _ _ _ _ _ (c .loop-test .left))
@@ -65,10 +59,8 @@ fits-pattern-spec =
     Inv-loop
     μ-loop
     loop-holds
-    add-byte-at
-    byte-at-requires
-    add-byte-at-2
-    byte-at-requires-2
+    byte-after-requires
+    byte-after-requires-2
     in-set-requires
     add-k
     loop-less
