@@ -8,12 +8,12 @@ use Prim.Native.Nat.{ℕ, _≤_, _<_}
 use native.Mathlib.Decide.{decLt}
 use lib.ListN.{length, List·getD-eq-default}
 use Rattle.slices.specs.Part.{part}
-use Rattle.columns.specs.ByteSets.{fits, fitsOf, byteSets, inRanges}
+use Rattle.columns.specs.ByteSets.{fits}
 use Rattle.columns.specs.Kinds.{kindOf, layoutOf, firstBadField}
 use Rattle.columns.specs.declared.Kind.{Kind}
 use Rattle.columns.specs.declared.Kind.the-variants.{Primary, Continuation}
 use native.Mathlib.Omega.{arith}
-use Rattle.columns.specs.Patterns.{codes, each, texts}
+use Rattle.columns.specs.Patterns.{each, texts}
 use Rattle.columns.specs.Terminators.{terminators}
 use Rattle.columns.specs.Rows.{firstBad, EveryRow, byteIn}
 use Rattle.columns.specs.Layout.{front, leg, application, back, primary, continuation}
@@ -42,7 +42,7 @@ and f p = f (p .0) (p .1)
 
 module _ (rec : List ℕ) where
   pub front-iff : EveryRow front rec ↔ Front rec
-  unfolding front codes each
+  unfolding front
   front-iff =
       Iff·trans
       (
@@ -91,7 +91,7 @@ module _ (rec : List ℕ) where
       )
 
   pub leg-iff : EveryRow leg rec ↔ Leg rec
-  unfolding leg codes each texts terminators
+  unfolding leg
   leg-iff =
       Iff·trans
       (
@@ -186,7 +186,7 @@ module _ (rec : List ℕ) where
       )
 
   pub application-iff : EveryRow application rec ↔ Application rec
-  unfolding application each
+  unfolding application
   application-iff =
       Iff·trans
       (
@@ -205,7 +205,7 @@ module _ (rec : List ℕ) where
       )
 
   pub back-iff : EveryRow back rec ↔ Back rec
-  unfolding back codes
+  unfolding back
   back-iff =
       Iff·trans
       (
@@ -250,7 +250,7 @@ module _ (rec : List ℕ) where
 
 -- 0 or 1 in column 39 numbers no continuation
 not-both : (rec : List ℕ) → Code "01" (columns 39 39 rec) → fits 107 (byteIn 39 rec) ≡ false
-unfolding each part fits fitsOf byteSets inRanges
+unfolding each part fits
 not-both rec m =
     ⊎-elim (λ e. let h : byteIn 39 rec ≡ 48 = cc in rw h)
     (λ n. let e = List·Memᴰ·eq-of-singleton n in let h : byteIn 39 rec ≡ 49 = cc in rw h)

@@ -8,7 +8,7 @@ use native.Mathlib.Omega.{arith}
 use lib.Dec.{leb}
 use borrow.Author.Tests.{leb-true, le-leb}
 use Rattle.slices.proofs.Cases.{both, and-left, and-right, either, or-left, or-right}
-use Rattle.columns.specs.ByteSets.{fits, fitsOf, byteSets, inRanges, within}
+use Rattle.columns.specs.ByteSets.{fits, within}
 use Rattle.columns.specs.Words.{Capital, Digit, LetterOrDigit, LetterDigitBlank, TextByte, TextOrBlank, ContinuationNumber, Printable}
 
 within-iff : (lo hi b : ℕ) → (within lo hi b ≡ true) ↔ ((lo ≤ b) × (b ≤ hi))
@@ -29,38 +29,38 @@ or-iff {A} {B} s t p q = (λ e. ⊎-elim (λ x. inl (p .0 x)) (λ x. inr (q .0 x
 
 module _ (b : ℕ) where
   pub capital : (fits 97 b ≡ true) ↔ Capital b
-  unfolding fits fitsOf byteSets inRanges
+  unfolding fits
   capital = within-iff 65 90 b
 
   pub digit : (fits 100 b ≡ true) ↔ Digit b
-  unfolding fits fitsOf byteSets inRanges
+  unfolding fits
   digit = within-iff 48 57 b
 
   pub digitNotZero : (fits 101 b ≡ true) ↔ ((49 ≤ b) × (b ≤ 57))
-  unfolding fits fitsOf byteSets inRanges
+  unfolding fits
   digitNotZero = within-iff 49 57 b
 
   pub letterOrDigit : (fits 110 b ≡ true) ↔ LetterOrDigit b
-  unfolding fits fitsOf byteSets inRanges
+  unfolding fits
   letterOrDigit = or-iff (within 65 90 b) (within 48 57 b) (within-iff 65 90 b) (within-iff 48 57 b)
 
   pub letterDigitBlank : (fits 111 b ≡ true) ↔ LetterDigitBlank b
-  unfolding fits fitsOf byteSets inRanges
+  unfolding fits
   letterDigitBlank = or-iff (within 65 90 b) _ (within-iff 65 90 b) (or-iff (within 48 57 b) _ (within-iff 48 57 b) (only-iff 32 b))
 
   pub textByte : (fits 116 b ≡ true) ↔ TextByte b
-  unfolding fits fitsOf byteSets inRanges
+  unfolding fits
   textByte = or-iff (within 65 90 b) _ (within-iff 65 90 b) (or-iff (within 48 57 b) _ (within-iff 48 57 b) (only-iff 45 b))
 
   pub textOrBlank : (fits 115 b ≡ true) ↔ TextOrBlank b
-  unfolding fits fitsOf byteSets inRanges
+  unfolding fits
   textOrBlank =
       or-iff (within 65 90 b) _ (within-iff 65 90 b) (or-iff (within 48 57 b) _ (within-iff 48 57 b) (or-iff (within 45 45 b) _ (only-iff 45 b) (only-iff 32 b)))
 
   pub continuationNumber : (fits 107 b ≡ true) ↔ ContinuationNumber b
-  unfolding fits fitsOf byteSets inRanges
+  unfolding fits
   continuationNumber = or-iff (within 50 57 b) _ (within-iff 50 57 b) (within-iff 65 90 b)
 
   pub printable : (fits 112 b ≡ true) ↔ Printable b
-  unfolding fits fitsOf byteSets inRanges
+  unfolding fits
   printable = within-iff 32 126 b

@@ -1,3 +1,4 @@
+-- The theorems about the table of columns, the laws behind them, and one turn of each loop of the matcher.
 pub mod Content
 pub mod FieldLaws
 pub mod LetterLaws

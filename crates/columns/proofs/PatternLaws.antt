@@ -11,7 +11,7 @@ use lib.ListN.{length, replicate, length-replicate}
 use lib.Dec.{eqb, ltb}
 use borrow.Author.Tests.{eqb-true, eq-eqb, ne-eqb, ltb-true}
 use Rattle.slices.proofs.Cases.{both, and-left, and-right, either, or-left, or-right}
-use Rattle.columns.specs.ByteSets.{fits, fitsOf, byteSets}
+use Rattle.columns.specs.ByteSets.{fits}
 use Rattle.columns.specs.Patterns.{fitsAll, anyOf, _then_, blanks}
 use Rattle.columns.specs.Words.{Each, All, Or, Then, Blank}
 
@@ -144,7 +144,7 @@ module _ (c : ℕ) (P : ℕ → Type 0) (e : (b : ℕ) → (fits c b ≡ true) �
 
 -- a code below the small letters stands for itself
 pub fits-plain : (c b : ℕ) → c < 97 → fits c b ≡ eqb b c
-unfolding fits fitsOf byteSets
+unfolding fits
 fits-plain c b h =
     simp (
       ne-eqb c 97 (λ e. omega arith),

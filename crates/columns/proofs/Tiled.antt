@@ -8,10 +8,8 @@ use lib.Dec.{eqb, leb}
 use lib.ListN.{length}
 use borrow.Author.Tests.{eqb-true, leb-true}
 use Rattle.slices.proofs.Cases.{and-left, and-right}
-use Rattle.columns.specs.Patterns.{codes, each, texts, _then_, textFrom, below, upToCodes, notAllZero}
-use Rattle.columns.specs.Terminators.{terminators}
 use Rattle.columns.specs.Rows.{Alternative, Row, Wide, Tiles}
-use Rattle.columns.specs.Layout.{front, leg, application, back, primary, continuation}
+use Rattle.columns.specs.Layout.{primary, continuation}
 use Rattle.columns.proofs.RowLaws.{Covers, no-gap, no-overlap}
 
 -- the test that is computed over a whole layout, and what it means
@@ -40,11 +38,11 @@ tiles-means from (r ∷ rs) end e =
     )
 
 pub primary-tiles : Tiles 1 primary 132
-unfolding primary front leg back codes each texts _then_ textFrom below upToCodes notAllZero terminators
+unfolding primary
 primary-tiles = tiles-means 1 primary 132 refl
 
 pub continuation-tiles : Tiles 1 continuation 132
-unfolding continuation front application back codes each texts _then_ textFrom below upToCodes notAllZero terminators
+unfolding continuation
 continuation-tiles = tiles-means 1 continuation 132 refl
 
 -- so each column from 1 to 132 is in exactly one row

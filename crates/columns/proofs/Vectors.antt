@@ -10,11 +10,10 @@ use lib.Dec.{eqb}
 use lib.ListN.{take}
 use lib.Seq.{sets}
 use Rattle.slices.specs.Part.{part}
-use Rattle.columns.specs.ByteSets.{fits, fitsOf, byteSets, inRanges}
-use Rattle.columns.specs.Patterns.{fitsAll, codes, each, texts, _then_, textFrom, below, upToCodes, notAllZero}
-use Rattle.columns.specs.Terminators.{terminators}
+use Rattle.columns.specs.ByteSets.{fits}
+use Rattle.columns.specs.Patterns.{fitsAll, codes}
 use Rattle.columns.specs.Rows.{stands, matches, firstOf}
-use Rattle.columns.specs.Layout.{front, leg, application, back, primary, continuation}
+use Rattle.columns.specs.Layout.{primary, continuation}
 use Rattle.columns.specs.Kinds.{kindOf, layoutOf, firstBadField}
 
 record Vector : Type 0 where
@@ -215,5 +214,5 @@ ofAnySlice =
     []
 
 worked : right (ofFront ++ ofLeg ++ ofBack ++ ofContinuation ++ ofAnySlice) ≡ true
-unfolding ofFront ofLeg ofBack ofContinuation ofAnySlice right _at_is_ _gives_ approach notes firstBadField layoutOf kindOf firstOf matches stands fitsAll fits fitsOf byteSets inRanges part primary continuation front leg application back codes each texts _then_ textFrom below upToCodes notAllZero terminators
+unfolding ofFront ofLeg ofBack ofContinuation ofAnySlice right _at_is_ _gives_ approach notes firstBadField layoutOf kindOf firstOf matches stands fitsAll fits part primary continuation
 worked = refl

@@ -48,4 +48,5 @@ fitsOf (s ∷ ss) c b = cond (eqb c (s .letter)) (inRanges (s .ranges) b) (fitsO
 
 -- the byte b fits the letter c
 unfoldable pub fits : ℕ → ℕ → Bool
+unfolding fitsOf byteSets inRanges
 fits = fitsOf byteSets

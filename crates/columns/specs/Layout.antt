@@ -3,7 +3,7 @@
 -- Assumes nothing.
 use Prim.Native.Nat.{ℕ}
 use mathlib.Core.List.{List, [], _∷_, _++_}
-use Rattle.columns.specs.Patterns.{one, each, texts, all, _then_, blanks, orBlank, digits, text, upTo, notAllZero}
+use Rattle.columns.specs.Patterns.{one, each, texts, codes, all, _then_, blanks, orBlank, digits, text, textFrom, upTo, upToCodes, below, notAllZero}
 use Rattle.columns.specs.Terminators.{terminators}
 use Rattle.columns.specs.Rows.{Row, row, guarded, always, when}
 
@@ -29,6 +29,7 @@ cycle = digits 2 then ((one "0" then notAllZero 1) ++ (one "1" then upTo "3"))
 
 -- columns 1 to 38, the same in a primary record and in a continuation
 unfoldable pub front : List Row
+unfolding each texts codes _then_ textFrom notAllZero
 front =
     row 1 1 (each "ST") ∷  -- record type: standard or tailored
     row 2 3 (text 3) ∷  -- area or customer code
@@ -48,15 +49,9 @@ front =
     row 38 1 letterDigitBlank ∷  -- its subsection
     []
 
--- columns 124 to 132, the same in both
-unfoldable pub back : List Row
-back =
-    row 124 5 (digits 5) ∷  -- file record number
-    row 129 4 cycle ∷  -- cycle
-    []
-
 -- columns 39 to 123 of a primary record
 unfoldable pub leg : List Row
+unfolding terminators each texts codes _then_ textFrom below upToCodes notAllZero
 leg =
     row 39 1 (each "01") ∷  -- continuation number
     row 40 1 (each "AEFGHNPRTV ") ∷  -- description codes
@@ -98,14 +93,25 @@ leg =
 
 -- columns 39 to 123 of a continuation
 unfoldable pub application : List Row
+unfolding each
 application =
     row 39 1 (all 1 "k") ∷  -- continuation number
     row 40 1 (each "PS ") ∷  -- application
     row 41 83 (all 83 "p") ∷  -- kept as they are
     []
 
+-- columns 124 to 132, the same in both
+unfoldable pub back : List Row
+unfolding codes _then_ below upToCodes notAllZero
+back =
+    row 124 5 (digits 5) ∷  -- file record number
+    row 129 4 cycle ∷  -- cycle
+    []
+
 unfoldable pub primary : List Row
+unfolding front leg back
 primary = front ++ leg ++ back
 
 unfoldable pub continuation : List Row
+unfolding front application back
 continuation = front ++ application ++ back

@@ -1,3 +1,4 @@
+-- The table of columns as data, what its rows mean when they are run, and what the paper says in words.
 pub mod ByteSets
 pub mod Patterns
 pub mod Terminators

@@ -16,6 +16,7 @@ encodeRows [] = []
 encodeRows (r ∷ rs) = r .width ∷ length (r .alternatives) ∷ (encodeAlternatives (r .alternatives) ++ encodeRows rs)
 
 unfoldable pub encode : List Row → List ℕ
+unfolding encodeRows encodeAlternatives
 encode rs = length rs ∷ encodeRows rs
 
 -- the alternative for a field of w bytes that a table has at p
@@ -37,4 +38,5 @@ rowsAt t zero p at = []
 rowsAt t (suc n) p at = rowAt t p at ∷ rowsAt t n (p + 2 + getD t (p + 1) 0 * (getD t p 0 + 2)) (at + getD t p 0)
 
 unfoldable pub decode : List ℕ → List Row
+unfolding rowsAt alternativesAt part
 decode t = rowsAt t (getD t 0 0) 1 0

@@ -1,4 +1,4 @@
-// The sets of bytes that the small letters of a pattern stand for.
+// The sets of bytes that the small letters of a pattern stand for. Assumes nothing.
 ghost use mathlib.Core.Path.{_≡_};
 ghost use Rattle.columns.specs.ByteSets.{within, fits};
 

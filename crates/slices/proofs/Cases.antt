@@ -31,8 +31,3 @@ or-left false b e = absurd (false≢true e)
 pub or-right : (a b : Bool) → b ≡ true → (a || b) ≡ true
 or-right true b e = refl
 or-right false b e = e
-
--- a test that is not passed has failed
-pub fails : (t : Bool) → (t ≡ true → ⊥) → t ≡ false
-fails true n = absurd (n refl)
-fails false n = refl

@@ -1,7 +1,7 @@
 -- Each arm's letter, put into `fits`, leaves the test of that letter's set. Assumes nothing.
 use borrow.Author.Needs.{needs}
 use borrow.Author.Tests.{ne-eqb}
-use Rattle.columns.specs.ByteSets.{fits, fitsOf, byteSets, inRanges}
+use Rattle.columns.specs.ByteSets.{fits}
 use Rattle.columns.proofs.byte_sets.in_set.Statement.{statement}
 use Rattle.columns.proofs.byte_sets.in_set.Tie as tie
 
@@ -60,43 +60,43 @@ between-requires-18 : tie.Need-between-requires-18
 between-requires-18 c κs = search needs
 
 returns : tie.Need-returns
-unfolding fits fitsOf byteSets inRanges
+unfolding fits
 returns c = rw (c .before .match .keys1) (c .between .ensures)
 
 returns-2 : tie.Need-returns-2
-unfolding fits fitsOf byteSets inRanges
+unfolding fits
 returns-2 c = rw (c .before .match .keys2) (c .between2 .ensures)
 
 returns-3 : tie.Need-returns-3
-unfolding fits fitsOf byteSets inRanges
+unfolding fits
 returns-3 c = rw (c .before .match .keys3) (c .between3 .ensures)
 
 returns-4 : tie.Need-returns-4
-unfolding fits fitsOf byteSets inRanges
+unfolding fits
 returns-4 c = rw (c .before .before .match .keys4) (simp (c .before .between4 .ensures, c .between5 .ensures))
 
 returns-5 : tie.Need-returns-5
-unfolding fits fitsOf byteSets inRanges
+unfolding fits
 returns-5 c = rw (c .before .before .before .match .keys5) (simp (c .before .before .between6 .ensures, c .before .between7 .ensures, c .between8 .ensures))
 
 returns-6 : tie.Need-returns-6
-unfolding fits fitsOf byteSets inRanges
+unfolding fits
 returns-6 c = rw (c .before .before .before .match .keys6) (simp (c .before .before .between9 .ensures, c .before .between10 .ensures, c .between11 .ensures))
 
 returns-7 : tie.Need-returns-7
-unfolding fits fitsOf byteSets inRanges
+unfolding fits
 returns-7 c = rw (c .before .before .before .before .match .keys7) (simp (c .before .before .before .between12 .ensures, c .before .before .between13 .ensures, c .before .between14 .ensures, c .between15 .ensures))
 
 returns-8 : tie.Need-returns-8
-unfolding fits fitsOf byteSets inRanges
+unfolding fits
 returns-8 c = rw (c .before .before .match .keys8) (simp (c .before .between16 .ensures, c .between17 .ensures))
 
 returns-9 : tie.Need-returns-9
-unfolding fits fitsOf byteSets inRanges
+unfolding fits
 returns-9 c = rw (c .before .match .keys9) (c .between18 .ensures)
 
 returns-10 : tie.Need-returns-10
-unfolding fits fitsOf byteSets inRanges
+unfolding fits
 returns-10 c =
     simp (
       ne-eqb _ _ (c .match .rest .0 .0 .0 .0 .0 .0 .0 .0 .1),

@@ -3,11 +3,9 @@ use borrow.Author.Needs.{needs}
 use mathlib.Core.Path.{sym, ap, _∙_}
 use mathlib.Core.List.{List}
 use Rattle.columns.proofs.Tied.{tied}
-use Rattle.columns.specs.Layout.{front, leg, back, primary}
+use Rattle.columns.specs.Layout.{primary}
 use Rattle.columns.specs.Rows.{Row, firstBad}
-use Rattle.columns.specs.Table.{encode, encodeRows, encodeAlternatives}
-use Rattle.columns.specs.Terminators.{terminators}
-use Rattle.columns.specs.Patterns.{codes, each, texts, _then_, textFrom, below, upToCodes, notAllZero}
+use Rattle.columns.specs.Table.{encode}
 use Rattle.columns.proofs.tables.first_bad_of_primary.Statement.{statement}
 use Rattle.columns.proofs.tables.first_bad_of_primary.Tie as tie
 
@@ -18,7 +16,7 @@ first-bad-by-requires : tie.Need-first-bad-by-requires
 first-bad-by-requires c κs = search needs
 
 returns : tie.Need-returns
-unfolding primary front leg back codes each texts _then_ textFrom below upToCodes notAllZero terminators encode encodeRows encodeAlternatives
+unfolding primary encode
 returns c = c .first-bad-by .ensures ∙ ap (λ (rs : List Row). firstBad rs (c .before .before .before .args .rec .now)) (sym tied)
 
 pub first-bad-of-primary-spec : {M : Type 1} → statement M
