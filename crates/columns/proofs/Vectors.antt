@@ -7,7 +7,7 @@ use mathlib.Core.List.{List, [], _∷_, _++_}
 use Prim.Native.Nat.{ℕ, _-_}
 use Prim.Native.String.{String}
 use lib.Dec.{eqb}
-use lib.ListN.{take}
+use lib.ListN.{take, set}
 use lib.Seq.{sets}
 use Rattle.slices.specs.Part.{part}
 use Rattle.columns.specs.ByteSets.{fits}
@@ -20,11 +20,15 @@ record Vector : Type 0 where
   content : List ℕ
   answer : ℕ
 
-infixl 80 _at_is_
+infixl 80 _at_is_ _at_holds_
 infix 75 _gives_
 -- a record with other content from a column on
 _at_is_ : List ℕ → ℕ → String → List ℕ
 rec at c is s = sets rec (c - 1) (codes s)
+
+-- .. and with one byte that no text can show
+_at_holds_ : List ℕ → ℕ → ℕ → List ℕ
+rec at c holds b = set rec (c - 1) b
 
 _gives_ : List ℕ → ℕ → Vector
 rec gives n = record { content = rec; answer = n }
@@ -196,6 +200,9 @@ ofContinuation =
     notes at 40 is "E" gives 40 ∷
     notes at 41 is "~ any byte that can be printed, small letters too" gives 0 ∷
     notes at 48 is "XF" gives 0 ∷
+    notes at 41 holds 126 gives 0 ∷
+    notes at 61 holds 31 gives 41 ∷
+    notes at 123 holds 127 gives 41 ∷
     notes at 1 is "X" gives 1 ∷
     notes at 13 is "D" gives 20 ∷
     notes at 27 is "000" gives 27 ∷
@@ -203,7 +210,7 @@ ofContinuation =
     notes at 129 is "2014" gives 129 ∷
     []
 
--- slices of any other length: a byte that is missing is legal nowhere, and what is past column 132 is not looked at
+-- slices of any other length and content: a byte that is missing is legal nowhere, and what is past column 132 is not looked at
 ofAnySlice : List Vector
 ofAnySlice =
     [] gives 1 ∷
@@ -211,8 +218,10 @@ ofAnySlice =
     take 38 approach gives 39 ∷
     take 131 approach gives 129 ∷
     (approach ++ codes "x") gives 0 ∷
+    approach at 30 holds 0 gives 30 ∷
+    approach at 117 holds 255 gives 117 ∷
     []
 
 worked : right (ofFront ++ ofLeg ++ ofBack ++ ofContinuation ++ ofAnySlice) ≡ true
-unfolding ofFront ofLeg ofBack ofContinuation ofAnySlice right _at_is_ _gives_ approach notes firstBadField layoutOf kindOf firstOf matches stands fitsAll fits part primary continuation
+unfolding ofFront ofLeg ofBack ofContinuation ofAnySlice right _at_is_ _at_holds_ _gives_ approach notes firstBadField layoutOf kindOf firstOf matches stands fitsAll fits part primary continuation
 worked = refl
