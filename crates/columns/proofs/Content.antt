@@ -256,11 +256,11 @@ not-both rec m =
     (λ n. let e = List·Memᴰ·eq-of-singleton n in let h : byteIn 39 rec ≡ 49 = cc in rw h)
     (List·Memᴰ·cases-cons m)
 
-primary-kind : (rec : List ℕ) → PrimaryContent rec → kindOf rec ≡ Primary
+pub primary-kind : (rec : List ℕ) → PrimaryContent rec → kindOf rec ≡ Primary
 unfolding kindOf
 primary-kind rec c = rw (not-both rec (c .leg .continuation))
 
-continuation-kind : (rec : List ℕ) → ContinuationContent rec → kindOf rec ≡ Continuation
+pub continuation-kind : (rec : List ℕ) → ContinuationContent rec → kindOf rec ≡ Continuation
 unfolding kindOf part
 continuation-kind rec c = rw (continuationNumber (byteIn 39 rec) .1 (c .application .number .1 .0))
 

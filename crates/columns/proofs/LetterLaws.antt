@@ -1,13 +1,13 @@
 -- What each small letter says of a byte, in the paper's words.
 -- Assumes nothing.
 use mathlib.Core.Path.{_≡_}
-use mathlib.Core.Logic.{_↔_, _⊎_, inl, inr, ⊎-elim}
-use mathlib.Core.Bool.{Bool, true, _||_}
+use mathlib.Core.Logic.{_↔_}
+use mathlib.Core.Bool.{true}
 use Prim.Native.Nat.{ℕ, _≤_}
 use native.Mathlib.Omega.{arith}
 use lib.Dec.{leb}
 use borrow.Author.Tests.{leb-true, le-leb}
-use Rattle.slices.proofs.Cases.{both, and-left, and-right, either, or-left, or-right}
+use Rattle.slices.proofs.Cases.{both, and-left, and-right, or-iff}
 use Rattle.columns.specs.ByteSets.{fits, within}
 use Rattle.columns.specs.Words.{Capital, Digit, LetterOrDigit, LetterDigitBlank, TextByte, TextOrBlank, ContinuationNumber, Printable}
 
@@ -19,13 +19,6 @@ within-iff lo hi b = (
 
 only-iff : (c b : ℕ) → (within c c b ≡ true) ↔ (b ≡ c)
 only-iff c b = (λ e. omega (arith, within-iff c c b .0 e), λ e. within-iff c c b .1 (omega arith, omega arith))
-
-pub or-iff : {A B : Type 0} (s t : Bool) → (s ≡ true) ↔ A → (t ≡ true) ↔ B → ((s || t) ≡ true) ↔ (A ⊎ B)
-or-iff {A} {B} s t p q = (λ e. ⊎-elim (λ x. inl (p .0 x)) (λ x. inr (q .0 x)) (either s t e), from)
-  where
-    from : A ⊎ B → (s || t) ≡ true
-    from (inl a) = or-left s t (p .1 a)
-    from (inr b) = or-right s t (q .1 b)
 
 module _ (b : ℕ) where
   pub capital : (fits 97 b ≡ true) ↔ Capital b

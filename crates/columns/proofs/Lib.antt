@@ -8,4 +8,4 @@ pub mod Tied
 pub mod Tiled
 pub mod WordLaws
 mod Turns
-mod Vectors
+pub mod Vectors

@@ -9,12 +9,11 @@ use Prim.Native.Char.{Char, code}
 use native.Mathlib.Omega.{arith}
 use native.Mathlib.Decide.{decLt}
 use borrow.Author.Tests.{ne-eqb}
-use Rattle.slices.proofs.Cases.{split, both, and-left, and-right, either, or-left, or-right}
+use Rattle.slices.proofs.Cases.{split, both, and-left, and-right, either, or-left, or-right, or-iff}
 use Rattle.columns.specs.ByteSets.{fits}
 use Rattle.columns.specs.Patterns.{fitsAll, anyOf}
 use Rattle.columns.specs.Rows.{Alternative, Row, row, always, when, byteIn, stands, alternativeOk, matches, fieldAt, rowOk, firstOf, firstBad, EveryRow, Leftmost, here, there, Tiles}
 use Rattle.columns.proofs.PatternLaws.{Says, plain-iff}
-use Rattle.columns.proofs.LetterLaws.{or-iff}
 
 -- ---- one row
 

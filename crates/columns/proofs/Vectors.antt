@@ -23,7 +23,7 @@ record Vector : Type 0 where
 infixl 80 _at_is_ _at_holds_
 infix 75 _gives_
 -- a record with other content from a column on
-_at_is_ : List ℕ → ℕ → String → List ℕ
+unfoldable pub _at_is_ : List ℕ → ℕ → String → List ℕ
 rec at c is s = sets rec (c - 1) (codes s)
 
 -- .. and with one byte that no text can show
@@ -37,10 +37,10 @@ right : List Vector → Bool
 right [] = true
 right (v ∷ vs) = eqb (firstBadField (v .content)) (v .answer) && right vs
 
-approach : List ℕ
+unfoldable pub approach : List ℕ
 approach = codes "SUSAP KSEAK1FI16R  I      010FAFFYK1PC0E  F    CF ISEAK1      3410006016100040PI  + 02000     18000210-300                 123452013"
 
-notes : List ℕ
+unfoldable pub notes : List ℕ
 notes = approach at 39 is "2" at 40 is " "
 
 -- columns 1 to 38

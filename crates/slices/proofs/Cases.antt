@@ -1,7 +1,7 @@
 -- Taking a test, or a joint test, apart by its answer.
 -- Assumes nothing.
 use mathlib.Core.Path.{_≡_, refl}
-use mathlib.Core.Logic.{_⊎_, inl, inr}
+use mathlib.Core.Logic.{_↔_, _⊎_, inl, inr, ⊎-elim}
 use mathlib.Core.Bool.{Bool, true, false, _&&_, _||_, false≢true}
 
 -- by the answer of a test, with the answer's equation
@@ -31,3 +31,10 @@ or-left false b e = absurd (false≢true e)
 pub or-right : (a b : Bool) → b ≡ true → (a || b) ≡ true
 or-right true b e = refl
 or-right false b e = e
+
+pub or-iff : {A B : Type 0} (s t : Bool) → (s ≡ true) ↔ A → (t ≡ true) ↔ B → ((s || t) ≡ true) ↔ (A ⊎ B)
+or-iff {A} {B} s t p q = (λ e. ⊎-elim (λ x. inl (p .0 x)) (λ x. inr (q .0 x)) (either s t e), from)
+  where
+    from : A ⊎ B → (s || t) ≡ true
+    from (inl a) = or-left s t (p .1 a)
+    from (inr b) = or-right s t (q .1 b)

@@ -1,18 +1,18 @@
 -- Laws of runs of bytes: their length, their bytes, joining two, and where they are a plain cut of the list; and of blank ones.
 -- Assumes nothing.
-use mathlib.Core.Path.{_≡_, refl, ap, ap₂, _∙_}
-use mathlib.Core.Logic.{_↔_}
-use mathlib.Core.Bool.{true}
-use mathlib.Core.List.{List, [], _∷_, _++_}
+use mathlib.Core.Path.{_≡_, refl, sym, ap, ap₂, _∙_}
+use mathlib.Core.Logic.{_↔_, ⊎-elim}
+use mathlib.Core.Bool.{true, false≢true}
+use mathlib.Core.List.{List, [], _∷_, _++_, List·Memᴰ, List·Memᴰ·head, List·Memᴰ·tail}
 use Prim.Native.Nat.{ℕ, zero, suc, _+_, _-_, _≤_, _<_}
 use native.Mathlib.Omega.{arith}
 use native.Mathlib.Nat.{sub-zero, add-zero, le-of-suc-le-suc, not-suc-le-zero}
 use lib.ListN.{length, getD, take, drop, replicate}
 use lib.Seq.{drop-cons}
 use lib.Dec.{eqb}
-use borrow.Author.Tests.{eqb-true}
-use Rattle.slices.specs.Part.{part, blank}
-use Rattle.slices.proofs.Cases.{and-left, and-right}
+use borrow.Author.Tests.{eqb-true, eq-eqb}
+use Rattle.slices.specs.Part.{part, blank, member}
+use Rattle.slices.proofs.Cases.{and-left, and-right, either, or-left, or-right}
 
 -- what is left of a count after k
 pub one-less : (n k : ℕ) → k < n → n - k ≡ suc (n - (k + 1))
@@ -81,3 +81,18 @@ blank-replicate (suc n) = blank-replicate n
 
 pub blank-iff : (xs : List ℕ) → (blank xs ≡ true) ↔ (xs ≡ replicate (length xs) 32)
 blank-iff xs = (blank-means xs, λ e. ap blank e ∙ blank-replicate (length xs))
+
+-- a byte that a run has is in it
+member-in : (b : ℕ) (xs : List ℕ) → member b xs ≡ true → List·Memᴰ b xs
+unfolding member
+member-in b [] e = absurd (false≢true e)
+member-in b (x ∷ xs) e =
+    ⊎-elim (λ h. List·Memᴰ·head (sym (eqb-true x b h))) (λ h. List·Memᴰ·tail (member-in b xs h)) (either (eqb x b) (member b xs) e)
+
+in-member : (b : ℕ) (xs : List ℕ) → List·Memᴰ b xs → member b xs ≡ true
+unfolding member
+in-member b (x ∷ xs) (List·Memᴰ·head e) = or-left (eqb x b) (member b xs) (eq-eqb x b (sym e))
+in-member b (x ∷ xs) (List·Memᴰ·tail m) = or-right (eqb x b) (member b xs) (in-member b xs m)
+
+pub member-iff : (b : ℕ) (xs : List ℕ) → (member b xs ≡ true) ↔ List·Memᴰ b xs
+member-iff b xs = (member-in b xs, in-member b xs)

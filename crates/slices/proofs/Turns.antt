@@ -1,14 +1,14 @@
--- One turn of the loops that compare and that look for blanks, as an equation between what is left before it and after it.
+-- One turn of the loops that compare, that look for blanks and that look for a byte, as an equation between what is left before it and after it.
 -- Assumes nothing.
 use mathlib.Core.Path.{_≡_, _∙_}
-use mathlib.Core.Bool.{Bool, true, false, _&&_}
+use mathlib.Core.Bool.{Bool, true, false, _&&_, _||_}
 use mathlib.Core.List.{List, _∷_}
 use Prim.Native.Nat.{ℕ, _+_, _-_, _≤_, _<_}
 use native.Mathlib.Omega.{arith}
 use lib.Dec.{eqb}
 use lib.ListN.{getD}
-use borrow.Author.Tests.{ne-eqb}
-use Rattle.slices.specs.Part.{part, blank}
+use borrow.Author.Tests.{eq-eqb, ne-eqb}
+use Rattle.slices.specs.Part.{part, blank, member}
 use Rattle.slices.specs.Order.{order}
 use Rattle.slices.specs.declared.Ordering.{Ordering}
 use Rattle.slices.specs.declared.Ordering.the-variants.{Less, Equal, Greater}
@@ -64,3 +64,26 @@ module _ (s : List ℕ) (i n k : ℕ) (h : k < n) {x : ℕ} (hx : x ≡ getD s (
 
   pub blank-next : x ≡ 32 → blankLeft s i n k ≡ blankLeft s i n (k + 1)
   blank-next e = blank-cons ∙ rw e
+
+-- a run of n bytes, of which k were not b
+pub memberLeft : List ℕ → ℕ → ℕ → ℕ → ℕ → Bool
+memberLeft s i n b k = member b (part (n - k) (i + k) s)
+
+pub member-start : (s : List ℕ) (i n b : ℕ) → member b (part n i s) ≡ memberLeft s i n b 0
+unfolding memberLeft
+member-start s i n b = rw (part-whole n i s)
+
+pub member-end : (s : List ℕ) (i n b k : ℕ) → n ≤ k → memberLeft s i n b k ≡ false
+unfolding memberLeft member
+member-end s i n b k h = rw (part-done n i s k h)
+
+module _ (s : List ℕ) (i n b k : ℕ) (h : k < n) {x : ℕ} (hx : x ≡ getD s (i + k) 0) where
+  member-cons : memberLeft s i n b k ≡ (eqb x b || memberLeft s i n b (k + 1))
+  unfolding memberLeft member
+  member-cons = rw (part-next n i s k h, hx)
+
+  pub member-found : x ≡ b → memberLeft s i n b k ≡ true
+  member-found e = member-cons ∙ rw (eq-eqb x b e)
+
+  pub member-next : (x ≡ b → ⊥) → memberLeft s i n b k ≡ memberLeft s i n b (k + 1)
+  member-next e = member-cons ∙ rw (ne-eqb x b e)

@@ -1,7 +1,7 @@
--- A run of bytes of a list, and whether it is blank.
+-- A run of bytes of a list, whether it is blank, and whether it has a byte.
 -- Assumes nothing.
 use Prim.Native.Nat.{ℕ, zero, suc}
-use mathlib.Core.Bool.{Bool, true, _&&_}
+use mathlib.Core.Bool.{Bool, true, false, _&&_, _||_}
 use mathlib.Core.List.{List, [], _∷_}
 use lib.Dec.{eqb}
 use lib.ListN.{getD}
@@ -15,3 +15,8 @@ part (suc n) i xs = getD xs i 0 ∷ part n (suc i) xs
 unfoldable pub blank : List ℕ → Bool
 blank [] = true
 blank (b ∷ bs) = eqb b 32 && blank bs
+
+-- one of them is b
+unfoldable pub member : ℕ → List ℕ → Bool
+member b [] = false
+member b (x ∷ xs) = eqb x b || member b xs

@@ -5,7 +5,7 @@ ghost use mathlib.Core.List.{_++_};
 ghost use Prim.Native.Nat.{_+_, _-_};
 ghost use lib.ListN.{getD, length, set, take, drop, replicate};
 ghost use lib.Seq.{sets};
-ghost use Rattle.slices.specs.Part.{part, blank};
+ghost use Rattle.slices.specs.Part.{part, blank, member};
 ghost use Rattle.slices.specs.Order.{order, equal};
 ghost use Rattle.slices.specs.Search.{firstAt, isLineFeed};
 
@@ -88,6 +88,20 @@ pub fn is_blank(s: &[u8], i: usize, n: usize) -> bool
         k += 1;
     }
     true
+}
+
+// Whether one of the n bytes from i on is b.
+pub fn has(s: &[u8], i: usize, n: usize, b: u8) -> bool
+    ensures { λ r. ⌜ r ≡ member b (part n i (now (s .entry))) ⌝ }
+{
+    let mut k = 0;
+    while k < n {
+        if byte_after(s, i, k) == b {
+            return true;
+        }
+        k += 1;
+    }
+    false
 }
 
 // Copies the n bytes of from that begin at i over those of out that begin at `at`.

@@ -1,0 +1,116 @@
+-- Laws of the terminators: the code's tables hold, for each, what the definitions say of it; and a name is read back.
+-- Assumes nothing.
+use mathlib.Core.Path.{_≡_, refl, sym, ap, _∙_}
+use mathlib.Core.Bool.{Bool, cond}
+use mathlib.Core.List.{List, [], _∷_, _++_, map}
+use Prim.Native.Nat.{ℕ, zero, suc, _+_, _*_, _≤_, _<_}
+use native.Mathlib.Omega.{arith}
+use native.Mathlib.Nat.{le-of-suc-le-suc, not-suc-le-zero}
+use lib.Dec.{eqb}
+use lib.ListN.{length, getD, List·getD-eq-default}
+use Rattle.slices.specs.Part.{part}
+use Rattle.slices.specs.Order.{order, equal}
+use Rattle.slices.specs.Search.{firstAt}
+use Rattle.columns.specs.Patterns.{codes, texts}
+use Rattle.columns.specs.Terminators.{terminators}
+use Rattle.leg.specs.Terminator.{inOrder, numberOf, nameOf, terminatorAt, terminatorOf, pairs, needs, needed, among, endsAtFix, isHolding}
+use Rattle.leg.specs.declared.terminator.Terminator.{Terminator}
+use Rattle.leg.specs.declared.terminator.Terminator.the-variants.{Af, Ca, Cd, Cf, Ci, Cr, Df, Fa, Fc, Fd, Fm, Ha, Hf, Hm, If, Pi, Rf, Tf, Va, Vd, Vi, Vm, Vr}
+
+abbrev joined : List (List ℕ) → List ℕ
+joined [] = []
+joined (x ∷ xs) = x ++ joined xs
+
+-- the code's tables
+unfoldable pub neededTable : List ℕ
+unfolding inOrder needed needs codes
+neededTable = joined (map needed inOrder)
+
+abbrev flag : Bool → ℕ
+flag b = cond b 49 48
+
+unfoldable pub endsTable : List ℕ
+unfolding inOrder endsAtFix among nameOf numberOf texts codes terminators equal order
+endsTable = map (λ t. flag (endsAtFix t)) inOrder
+
+unfoldable pub holdingsTable : List ℕ
+unfolding inOrder isHolding among nameOf numberOf texts codes terminators equal order
+holdingsTable = map (λ t. flag (isHolding t)) inOrder
+
+-- what they hold of one terminator, and its name read back
+pub record RowOf (t : Terminator) : Type 0 where
+  pub its-needs : part 8 (numberOf t * 8) neededTable ≡ needed t
+  pub its-end : eqb (getD endsTable (numberOf t) 0) 49 ≡ endsAtFix t
+  pub its-holding : eqb (getD holdingsTable (numberOf t) 0) 49 ≡ isHolding t
+  pub its-name : terminatorOf (nameOf t) ≡ t
+
+pub row-of : (t : Terminator) → RowOf t
+unfolding neededTable endsTable holdingsTable numberOf part terminatorOf terminatorAt firstAt
+row-of Af = record { its-needs = refl; its-end = refl; its-holding = refl; its-name = refl }
+row-of Ca = record { its-needs = refl; its-end = refl; its-holding = refl; its-name = refl }
+row-of Cd = record { its-needs = refl; its-end = refl; its-holding = refl; its-name = refl }
+row-of Cf = record { its-needs = refl; its-end = refl; its-holding = refl; its-name = refl }
+row-of Ci = record { its-needs = refl; its-end = refl; its-holding = refl; its-name = refl }
+row-of Cr = record { its-needs = refl; its-end = refl; its-holding = refl; its-name = refl }
+row-of Df = record { its-needs = refl; its-end = refl; its-holding = refl; its-name = refl }
+row-of Fa = record { its-needs = refl; its-end = refl; its-holding = refl; its-name = refl }
+row-of Fc = record { its-needs = refl; its-end = refl; its-holding = refl; its-name = refl }
+row-of Fd = record { its-needs = refl; its-end = refl; its-holding = refl; its-name = refl }
+row-of Fm = record { its-needs = refl; its-end = refl; its-holding = refl; its-name = refl }
+row-of Ha = record { its-needs = refl; its-end = refl; its-holding = refl; its-name = refl }
+row-of Hf = record { its-needs = refl; its-end = refl; its-holding = refl; its-name = refl }
+row-of Hm = record { its-needs = refl; its-end = refl; its-holding = refl; its-name = refl }
+row-of If = record { its-needs = refl; its-end = refl; its-holding = refl; its-name = refl }
+row-of Pi = record { its-needs = refl; its-end = refl; its-holding = refl; its-name = refl }
+row-of Rf = record { its-needs = refl; its-end = refl; its-holding = refl; its-name = refl }
+row-of Tf = record { its-needs = refl; its-end = refl; its-holding = refl; its-name = refl }
+row-of Va = record { its-needs = refl; its-end = refl; its-holding = refl; its-name = refl }
+row-of Vd = record { its-needs = refl; its-end = refl; its-holding = refl; its-name = refl }
+row-of Vi = record { its-needs = refl; its-end = refl; its-holding = refl; its-name = refl }
+row-of Vm = record { its-needs = refl; its-end = refl; its-holding = refl; its-name = refl }
+row-of Vr = record { its-needs = refl; its-end = refl; its-holding = refl; its-name = refl }
+
+-- the names in the code are those of the list
+unfoldable pub namesTable : List ℕ
+unfolding texts codes terminators
+namesTable = joined (texts terminators)
+
+names-tied : texts terminators ≡ pairs namesTable 23 0
+unfolding namesTable pairs part
+names-tied = refl
+
+pub found : (f : List ℕ) (n : ℕ) {t : Terminator} → n ≡ firstAt (equal f) (pairs namesTable 23 0) → t ≡ terminatorAt n → t ≡ terminatorOf f
+unfolding terminatorOf
+found f n e h = h ∙ ap terminatorAt (e ∙ ap (firstAt (equal f)) (sym names-tied))
+
+-- the names of a table, one after the other
+pub length-pairs : (t : List ℕ) (n p : ℕ) → length (pairs t n p) ≡ n
+unfolding pairs
+length-pairs t zero p = refl
+length-pairs t (suc n) p = ap suc (length-pairs t n (p + 2))
+
+pub getD-pairs : (t : List ℕ) (n p i : ℕ) → i < n → getD (pairs t n p) i [] ≡ part 2 (p + i * 2) t
+unfolding pairs
+getD-pairs t zero p i h = absurd (not-suc-le-zero h)
+getD-pairs t (suc n) p zero h = let e : p + 0 * 2 ≡ p = omega arith in rw e
+getD-pairs t (suc n) p (suc i) h = let e : p + 2 + i * 2 ≡ p + suc i * 2 = omega arith in getD-pairs t n (p + 2) i (le-of-suc-le-suc h) ∙ rw e
+
+-- the test that the search makes at one place
+pub name-test : (t rec : List ℕ) (at i : ℕ) → at ≡ 47 → i < 23 → {r : Bool} → r ≡ equal (part 2 at rec) (part 2 (i * 2) t)
+    → equal (part 2 47 rec) (getD (pairs t 23 0) i []) ≡ r
+name-test t rec at i q h e = let z : 0 + i * 2 ≡ i * 2 = omega arith in rw (getD-pairs t 23 0 i h, z, ← q, e)
+
+-- within the order no default is asked for
+any-default : {A : Type 0} (xs : List A) (i : ℕ) (d e : A) → i < length xs → getD xs i d ≡ getD xs i e
+any-default [] i d e h = absurd (not-suc-le-zero h)
+any-default (x ∷ xs) zero d e h = refl
+any-default (x ∷ xs) (suc i) d e h = any-default xs i d e (le-of-suc-le-suc h)
+
+pub in-order : (n : ℕ) (d : Terminator) → n < 23 → getD inOrder n d ≡ terminatorAt n
+unfolding terminatorAt inOrder
+in-order n d h = any-default inOrder n d Vr h
+
+-- past the last one it is the last one
+pub past : (n : ℕ) → 23 ≤ n → terminatorAt n ≡ Vr
+unfolding terminatorAt inOrder
+past n h = List·getD-eq-default inOrder Vr h

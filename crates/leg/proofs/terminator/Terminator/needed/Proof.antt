@@ -1,0 +1,26 @@
+-- The row of the table is what the terminator needs. Assumes nothing.
+use borrow.Author.Needs.{needs}
+use mathlib.Core.Path.{ap, _∙_}
+use Rattle.slices.specs.Part.{member}
+use Rattle.leg.proofs.TerminatorLaws.{row-of, neededTable}
+use Rattle.leg.proofs.terminator.Terminator.needed.Statement.{statement}
+use Rattle.leg.proofs.terminator.Terminator.needed.Tie as tie
+
+number-requires : tie.Need-number-requires
+number-requires c κs = search needs
+
+slice-aggregate-has : tie.Need-slice-aggregate-has
+slice-aggregate-has c = search needs
+
+mul-has : tie.Need-mul-has
+mul-has c = search needs
+
+has-requires : tie.Need-has-requires
+has-requires c κs = search needs
+
+returns : tie.Need-returns
+unfolding neededTable
+returns c = c .has .ensures ∙ rw (c .before .before .number .ensures .0) (ap (member _) (row-of _ .its-needs))
+
+pub needed-spec : {M : Type 1} → statement M
+needed-spec = tie.close (tie.spec number-requires slice-aggregate-has mul-has has-requires returns)

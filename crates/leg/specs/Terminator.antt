@@ -1,0 +1,100 @@
+-- The 23 path terminators: their names, the fields that each needs, which of them end at a fix, which are holdings.
+-- Assumes nothing.
+use Prim.Native.Nat.{ℕ, zero, suc, _+_}
+use Prim.Native.String.{String}
+use mathlib.Core.Bool.{Bool, false, _||_}
+use mathlib.Core.List.{List, [], _∷_, _++_}
+use lib.ListN.{getD, take, replicate}
+use Rattle.slices.specs.Part.{part}
+use Rattle.slices.specs.Order.{equal}
+use Rattle.slices.specs.Search.{firstAt}
+use Rattle.columns.specs.Patterns.{codes, texts}
+use Rattle.columns.specs.Terminators.{terminators}
+use Rattle.leg.specs.declared.terminator.Terminator.{Terminator}
+use Rattle.leg.specs.declared.terminator.Terminator.the-variants.{Af, Ca, Cd, Cf, Ci, Cr, Df, Fa, Fc, Fd, Fm, Ha, Hf, Hm, If, Pi, Rf, Tf, Va, Vd, Vi, Vm, Vr}
+
+-- the order of the list of names
+unfoldable pub inOrder : List Terminator
+inOrder = Af ∷ Ca ∷ Cd ∷ Cf ∷ Ci ∷ Cr ∷ Df ∷ Fa ∷ Fc ∷ Fd ∷ Fm ∷ Ha ∷ Hf ∷ Hm ∷ If ∷ Pi ∷ Rf ∷ Tf ∷ Va ∷ Vd ∷ Vi ∷ Vm ∷ Vr ∷ []
+
+unfoldable pub numberOf : Terminator → ℕ
+numberOf Af = 0
+numberOf Ca = 1
+numberOf Cd = 2
+numberOf Cf = 3
+numberOf Ci = 4
+numberOf Cr = 5
+numberOf Df = 6
+numberOf Fa = 7
+numberOf Fc = 8
+numberOf Fd = 9
+numberOf Fm = 10
+numberOf Ha = 11
+numberOf Hf = 12
+numberOf Hm = 13
+numberOf If = 14
+numberOf Pi = 15
+numberOf Rf = 16
+numberOf Tf = 17
+numberOf Va = 18
+numberOf Vd = 19
+numberOf Vi = 20
+numberOf Vm = 21
+numberOf Vr = 22
+
+unfoldable pub nameOf : Terminator → List ℕ
+nameOf t = getD (texts terminators) (numberOf t) []
+
+unfoldable pub terminatorAt : ℕ → Terminator
+terminatorAt n = getD inOrder n Vr
+
+-- the terminator of a name, by its place in the list of names
+unfoldable pub terminatorOf : List ℕ → Terminator
+terminatorOf f = terminatorAt (firstAt (equal f) (texts terminators))
+
+-- n names of two letters, one after the other, from a place of a table on
+unfoldable pub pairs : List ℕ → ℕ → ℕ → List (List ℕ)
+pairs t zero p = []
+pairs t (suc n) p = part 2 p t ∷ pairs t n (p + 2)
+
+-- "Needed fields (our reading of Attachment 5). F fix, N navaid, H theta, R rho, C course, D distance, A first altitude, T turn", and
+-- for RF X arc radius, O centre fix
+unfoldable pub needs : Terminator → String
+needs If = "F"
+needs Tf = "F"
+needs Df = "F"
+needs Cf = "FNHRCD"
+needs Fc = "FNHRCD"
+needs Fd = "FNHRCD"
+needs Fm = "FNHRC"
+needs Fa = "FNHRCA"
+needs Ca = "CA"
+needs Va = "CA"
+needs Cd = "NCD"
+needs Vd = "NCD"
+needs Ci = "C"
+needs Vi = "C"
+needs Vm = "C"
+needs Cr = "NHC"
+needs Vr = "NHC"
+needs Af = "FTNHRC"
+needs Rf = "FTDXO"
+needs Hf = "FTCD"
+needs Hm = "FTCD"
+needs Ha = "FTCDA"
+needs Pi = "FTNHRCDA"
+
+-- the same, eight letters with blanks at the end
+unfoldable pub needed : Terminator → List ℕ
+needed t = take 8 (codes (needs t) ++ replicate 8 32)
+
+unfoldable pub among : List ℕ → List (List ℕ) → Bool
+among f [] = false
+among f (p ∷ ps) = equal f p || among f ps
+
+-- the list of the pair rule: those that HA, HF, HM, PI, FA, FC, FD, FM, TF and RF may follow
+unfoldable pub endsAtFix : Terminator → Bool
+endsAtFix t = among (nameOf t) (texts ("IF" ∷ "TF" ∷ "CF" ∷ "DF" ∷ "AF" ∷ "RF" ∷ "HA" ∷ "HF" ∷ "HM" ∷ []))
+
+unfoldable pub isHolding : Terminator → Bool
+isHolding t = among (nameOf t) (texts ("HA" ∷ "HF" ∷ "HM" ∷ []))

@@ -1,0 +1,189 @@
+// The 23 path terminators, in the order of the standard's tables. Assumes nothing of the caller.
+ghost use mathlib.Core.Path.{_≡_};
+ghost use Prim.Native.Nat.{_<_};
+ghost use Rattle.slices.specs.Part.{part, member};
+ghost use Rattle.slices.specs.Order.{equal};
+ghost use Rattle.slices.specs.Search.{firstAt};
+ghost use Rattle.leg.specs.Terminator.{pairs, numberOf, terminatorAt, terminatorOf, needed, endsAtFix, isHolding};
+use slices::has;
+use slices::same;
+
+pub enum Terminator {
+    Af,
+    Ca,
+    Cd,
+    Cf,
+    Ci,
+    Cr,
+    Df,
+    Fa,
+    Fc,
+    Fd,
+    Fm,
+    Ha,
+    Hf,
+    Hm,
+    If,
+    Pi,
+    Rf,
+    Tf,
+    Va,
+    Vd,
+    Vi,
+    Vm,
+    Vr,
+}
+
+// For each terminator its two letters.
+const NAMES: [u8; 46] = *b"AFCACDCFCICRDFFAFCFDFMHAHFHMIFPIRFTFVAVDVIVMVR";
+
+// For each terminator the letters of the fields that it needs, then blanks, eight in all.
+const NEEDED: [u8; 184] =
+    *b"FTNHRC  CA      NCD     FNHRCD  C       NHC     F       FNHRCA  FNHRCD  FNHRCD  FNHRC   FTCDA   FTCD    FTCD    F       FTNHRCDAFTDXO   F       CA      NCD     C       C       NHC     ";
+
+// For each terminator whether it ends at a fix, and whether it is a holding.
+const ENDS: [u8; 23] = *b"10010010000111101100000";
+
+const HOLDINGS: [u8; 23] = *b"00000000000111000000000";
+
+// The place of a record's terminator among 23 names of two letters, or 23 where it is none of them.
+fn place_among<'a>(names: &'a [u8], rec: &'a [u8]) -> usize
+    ensures { λ r. ⌜ r ≡ firstAt (equal (part 2 47 (now (rec .entry)))) (pairs (now (names .entry)) 23 0) ⌝ }
+{
+    let at = Terminator::column() - 1;
+    let mut i = 0;
+    while i < 23 {
+        if same(rec, at, names, i * 2, 2) {
+            return i;
+        }
+        i += 1;
+    }
+    i
+}
+
+impl Terminator {
+    // The columns in which a record has its terminator, and the fields that a leg may need.
+    pub const COLUMN: usize = 48;
+
+    pub const FIX: usize = 30;
+
+    pub const TURN: usize = 44;
+
+    pub const NAVAID: usize = 51;
+
+    pub const ARC_RADIUS: usize = 57;
+
+    pub const THETA: usize = 63;
+
+    pub const RHO: usize = 67;
+
+    pub const COURSE: usize = 71;
+
+    pub const DISTANCE: usize = 75;
+
+    pub const ALTITUDE: usize = 85;
+
+    pub const SECOND_ALTITUDE: usize = 90;
+
+    pub const CENTRE_FIX: usize = 107;
+
+    // The column at which a record's terminator begins.
+    pub fn column() -> usize
+        ensures { λ r. ⌜ r ≡ 48 ⌝ }
+    {
+        Terminator::COLUMN
+    }
+
+    fn number(self) -> usize
+        ensures { λ r. ⌜ (r ≡ numberOf self) × (r < 23) ⌝ }
+    {
+        match self {
+            Terminator::Af => 0,
+            Terminator::Ca => 1,
+            Terminator::Cd => 2,
+            Terminator::Cf => 3,
+            Terminator::Ci => 4,
+            Terminator::Cr => 5,
+            Terminator::Df => 6,
+            Terminator::Fa => 7,
+            Terminator::Fc => 8,
+            Terminator::Fd => 9,
+            Terminator::Fm => 10,
+            Terminator::Ha => 11,
+            Terminator::Hf => 12,
+            Terminator::Hm => 13,
+            Terminator::If => 14,
+            Terminator::Pi => 15,
+            Terminator::Rf => 16,
+            Terminator::Tf => 17,
+            Terminator::Va => 18,
+            Terminator::Vd => 19,
+            Terminator::Vi => 20,
+            Terminator::Vm => 21,
+            Terminator::Vr => 22,
+        }
+    }
+
+    fn at(n: usize) -> Terminator
+        ensures { λ r. ⌜ r ≡ terminatorAt n ⌝ }
+    {
+        let all = [
+            Terminator::Af,
+            Terminator::Ca,
+            Terminator::Cd,
+            Terminator::Cf,
+            Terminator::Ci,
+            Terminator::Cr,
+            Terminator::Df,
+            Terminator::Fa,
+            Terminator::Fc,
+            Terminator::Fd,
+            Terminator::Fm,
+            Terminator::Ha,
+            Terminator::Hf,
+            Terminator::Hm,
+            Terminator::If,
+            Terminator::Pi,
+            Terminator::Rf,
+            Terminator::Tf,
+            Terminator::Va,
+            Terminator::Vd,
+            Terminator::Vi,
+            Terminator::Vm,
+            Terminator::Vr,
+        ];
+        if n < 23 { all[n] } else { Terminator::Vr }
+    }
+
+    // The terminator in columns 48 and 49 of a record; VR where they hold none, which is refused by 3 before anything asks.
+    pub fn of(rec: &[u8]) -> Terminator
+        ensures { λ r. ⌜ r ≡ terminatorOf (part 2 47 (now (rec .entry))) ⌝ }
+    {
+        Terminator::at(place_among(&NAMES, rec))
+    }
+
+    // Whether a leg of this kind needs the field of the letter: F fix, T turn, N navaid, X arc radius, H theta, R rho, C course,
+    // D distance, A first altitude, O centre fix.
+    pub fn needed(self, letter: u8) -> bool
+        ensures { λ r. ⌜ r ≡ member letter (needed self) ⌝ }
+    {
+        let n = self.number();
+        has(&NEEDED, n * 8, 8, letter)
+    }
+
+    // Whether the leg ends at a fix.
+    pub fn ends_at_fix(self) -> bool
+        ensures { λ r. ⌜ r ≡ endsAtFix self ⌝ }
+    {
+        let n = self.number();
+        ENDS[n] == b'1'
+    }
+
+    // Whether the leg is a holding.
+    pub fn is_holding(self) -> bool
+        ensures { λ r. ⌜ r ≡ isHolding self ⌝ }
+    {
+        let n = self.number();
+        HOLDINGS[n] == b'1'
+    }
+}
