@@ -10,10 +10,9 @@ use Rattle.slices.specs.Part.{part, blank, member}
 use Rattle.slices.specs.Order.{order, equal}
 use Rattle.slices.specs.Search.{firstAt}
 use Rattle.columns.specs.ByteSets.{fits}
-use Rattle.columns.specs.Patterns.{fitsAll, codes, texts}
+use Rattle.columns.specs.Patterns.{fitsAll}
 use Rattle.columns.specs.Rows.{stands, matches, firstOf}
 use Rattle.columns.specs.Layout.{primary, continuation}
-use Rattle.columns.specs.Terminators.{terminators}
 use Rattle.columns.specs.Kinds.{kindOf, layoutOf, firstBadField}
 use Rattle.columns.proofs.Vectors.{_at_is_, approach, notes}
 use Rattle.refusals.specs.Table.{refusal, stated}

@@ -2,7 +2,8 @@
 // Assumes of its callers, all in this file, that columns count from 1; the two stages themselves assume nothing.
 ghost use mathlib.Core.Path.{_≡_};
 ghost use Prim.Native.Nat.{_≤_, _-_};
-ghost use Rattle.slices.specs.Part.{part, blank};
+ghost use Rattle.slices.specs.Part.{part, blank, member};
+ghost use Rattle.leg.specs.Terminator.{needed};
 ghost use Rattle.leg.specs.Stages.{oddOne, missing, companionColumn, neededColumn};
 use crate::terminator::Terminator;
 use slices::byte_at;
@@ -68,21 +69,36 @@ fn missing_at(rec: &[u8], needed: bool, column: usize, width: usize, rest: usize
     }
 }
 
+// The same of the field of a letter, as the terminator needs it or not.
+fn asked_at(
+    rec: &[u8],
+    t: Terminator,
+    letter: u8,
+    column: usize,
+    width: usize,
+    rest: usize,
+) -> usize
+    requires { ⌜ 1 ≤ column ⌝ }
+    ensures { λ r. ⌜ r ≡ missing (member letter (needed t)) (part width (column - 1) (now (rec .entry))) column rest ⌝ }
+{
+    missing_at(rec, t.needed(letter), column, width, rest)
+}
+
 // The lowest column of a field that the leg needs and that is blank, or 0.
 pub(crate) fn needed_column(rec: &[u8]) -> usize
     ensures { λ r. ⌜ r ≡ neededColumn (now (rec .entry)) ⌝ }
 {
     let t = Terminator::of(rec);
     let both = byte_at(rec, 82) == b'B';
-    let c = missing_at(rec, t.needed(b'O'), Terminator::CENTRE_FIX, 5, 0);
+    let c = asked_at(rec, t, b'O', Terminator::CENTRE_FIX, 5, 0);
     let c = missing_at(rec, both, Terminator::SECOND_ALTITUDE, 5, c);
     let c = missing_at(rec, t.needed(b'A') | both, Terminator::ALTITUDE, 5, c);
-    let c = missing_at(rec, t.needed(b'D'), Terminator::DISTANCE, 4, c);
-    let c = missing_at(rec, t.needed(b'C'), Terminator::COURSE, 4, c);
-    let c = missing_at(rec, t.needed(b'R'), Terminator::RHO, 4, c);
-    let c = missing_at(rec, t.needed(b'H'), Terminator::THETA, 4, c);
-    let c = missing_at(rec, t.needed(b'X'), Terminator::ARC_RADIUS, 6, c);
-    let c = missing_at(rec, t.needed(b'N'), Terminator::NAVAID, 4, c);
-    let c = missing_at(rec, t.needed(b'T'), Terminator::TURN, 1, c);
-    missing_at(rec, t.needed(b'F'), Terminator::FIX, 5, c)
+    let c = asked_at(rec, t, b'D', Terminator::DISTANCE, 4, c);
+    let c = asked_at(rec, t, b'C', Terminator::COURSE, 4, c);
+    let c = asked_at(rec, t, b'R', Terminator::RHO, 4, c);
+    let c = asked_at(rec, t, b'H', Terminator::THETA, 4, c);
+    let c = asked_at(rec, t, b'X', Terminator::ARC_RADIUS, 6, c);
+    let c = asked_at(rec, t, b'N', Terminator::NAVAID, 4, c);
+    let c = asked_at(rec, t, b'T', Terminator::TURN, 1, c);
+    asked_at(rec, t, b'F', Terminator::FIX, 5, c)
 }

@@ -31,11 +31,16 @@ enum-told-2 c = search needs
 
 returns-2 : tie.Need-returns-2
 unfolding judged
-returns-2 c = c .judge-leg .ensures ∙ sym (stage-passes _ _ (c .before .before .before .before .before .first-bad .ensures) (c .before .before .before .before .if1 .left) ∙ rw (sym (c .before .before .before .kind-of .ensures) ∙ c .before .enum-told .given .1))
+returns-2 c =
+    let kind = c .before .before .before in
+    c .judge-leg .ensures
+    ∙ sym (stage-passes _ _ (kind .before .before .first-bad .ensures) (kind .before .if1 .left) ∙ rw (sym (kind .kind-of .ensures) ∙ c .before .enum-told .given .1))
 
 returns-3 : tie.Need-returns-3
 unfolding judged
-returns-3 c = sym (stage-passes _ _ (c .before .before .before .before .first-bad .ensures) (c .before .before .before .if1 .left) ∙ rw (sym (c .before .before .kind-of .ensures) ∙ c .enum-told2 .given .1))
+returns-3 c =
+    let kind = c .before .before in
+    sym (stage-passes _ _ (kind .before .before .first-bad .ensures) (kind .before .if1 .left) ∙ rw (sym (kind .kind-of .ensures) ∙ c .enum-told2 .given .1))
 
 pub judge-spec : {M : Type 1} → statement M
 judge-spec =

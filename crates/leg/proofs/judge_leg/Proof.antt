@@ -25,11 +25,18 @@ needed-blank-requires c κs = search needs
 
 returns-2 : tie.Need-returns-2
 unfolding judgedLeg
-returns-2 c = stage-refuses _ _ (c .before .before .needed-column .ensures) (c .before .if2 .taken) (c .needed-blank .ensures) ∙ sym (stage-passes _ _ (c .before .before .before .before .companion-column .ensures) (c .before .before .before .if1 .left))
+returns-2 c =
+    let fourth = c .before .before .before in
+    stage-refuses _ _ (c .before .before .needed-column .ensures) (c .before .if2 .taken) (c .needed-blank .ensures)
+    ∙ sym (stage-passes _ _ (fourth .before .companion-column .ensures) (fourth .if1 .left))
 
 returns-3 : tie.Need-returns-3
 unfolding judgedLeg
-returns-3 c = sym (stage-passes _ _ (c .before .before .before .companion-column .ensures) (c .before .before .if1 .left) ∙ stage-passes _ _ (c .before .needed-column .ensures) (c .if2 .left))
+returns-3 c =
+    let fourth = c .before .before in
+    sym
+    (stage-passes _ _ (fourth .before .companion-column .ensures) (fourth .if1 .left)
+    ∙ stage-passes _ _ (c .before .needed-column .ensures) (c .if2 .left))
 
 pub judge-leg-spec : {M : Type 1} → statement M
 judge-leg-spec =

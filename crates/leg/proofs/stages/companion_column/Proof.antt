@@ -1,3 +1,4 @@
+-- Each call is a line of the definition. Assumes nothing.
 use Rattle.leg.specs.Stages.{companionColumn}
 use borrow.Author.Needs.{needs}
 use Rattle.leg.proofs.stages.companion_column.Statement.{statement}

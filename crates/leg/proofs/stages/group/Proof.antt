@@ -1,3 +1,4 @@
+-- Three fields looked at, and the odd one found. Assumes nothing.
 use Rattle.leg.specs.Stages.{oddOne}
 use borrow.Author.Needs.{needs}
 use Rattle.leg.proofs.stages.group.Statement.{statement}

@@ -1,0 +1,39 @@
+//! A second, separate reading of the record rules: it judges one procedure
+//! record (PD, PE, PF), takes it apart and puts it together again.
+//!
+//! - `layout`: the columns of both kinds of record and what each may hold
+//! - `judge`: the three stages a record goes through (3, 4, 5)
+//! - `parts`: the typed parts of a record
+//! - `record`: from 133 bytes to parts, and back
+//! - `cases`: the stored set of records
+//! - `report`: what this program answers to that set
+
+pub mod cases;
+pub mod judge;
+pub mod layout;
+pub mod parts;
+pub mod record;
+pub mod report;
+
+pub use judge::judge;
+pub use parts::{Continuation, Frame, Leg, Parts};
+pub use record::{read, write};
+
+/// The stored files, by their paths from this package, and what they hold.
+pub fn stored_files() -> [(&'static str, Vec<u8>); 3] {
+    let set = cases::all();
+    [
+        ("../crates/vectors_record/data/records.bin", cases::stored(&set)),
+        ("../crates/vectors_record/stdout", report::judged(&set).into_bytes()),
+        ("answers/read_and_written.txt", report::read_and_written(&set).into_bytes()),
+    ]
+}
+
+/// Why a record was not read or written. Columns count from 1; the place is 1
+/// for a record read alone and 0 for one being written.
+#[derive(Clone, Copy, Debug, PartialEq, Eq)]
+pub struct Refusal {
+    pub number: u8,
+    pub place: usize,
+    pub column: usize,
+}

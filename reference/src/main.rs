@@ -1,0 +1,17 @@
+//! Writes the stored set of records and the answers to it.
+
+use std::path::Path;
+use std::{fs, io};
+
+use reference::stored_files;
+
+fn main() -> io::Result<()> {
+    for (name, made) in stored_files() {
+        let path = Path::new(env!("CARGO_MANIFEST_DIR")).join(name);
+        if let Some(folder) = path.parent() {
+            fs::create_dir_all(folder)?;
+        }
+        fs::write(path, made)?;
+    }
+    Ok(())
+}
