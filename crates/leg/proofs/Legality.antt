@@ -3,15 +3,13 @@
 use mathlib.Core.Path.{_≡_, refl, sym, ap, subst, _∙_}
 use mathlib.Core.Logic.{_↔_, inl, inr, ⊎-elim, Iff·trans, Iff·and, Iff·rfl}
 use mathlib.Core.Bool.{Bool, true, false, cond, _&&_, _||_, false≢true}
-use mathlib.Core.List.{List, [], _∷_, List·Memᴰ, List·Memᴰ·cases-cons, List·Memᴰ·not-nil}
+use mathlib.Core.List.{List, [], _∷_, map, List·Memᴰ, List·Memᴰ·cases-cons, List·Memᴰ·not-nil}
 use Prim.Native.Nat.{ℕ, _≤_}
 use Prim.Native.Char.{Char, code}
 use native.Mathlib.Omega.{arith}
 use lib.Dec.{eqb}
 use borrow.Author.Tests.{eqb-true, eq-eqb}
 use Rattle.slices.specs.Part.{blank}
-use Rattle.slices.specs.Order.{equal, order}
-use Rattle.slices.specs.Search.{firstAt}
 use Rattle.slices.proofs.Cases.{split, or-iff}
 use Rattle.slices.proofs.PartLaws.{blank-iff, member-iff}
 use Rattle.columns.specs.Patterns.{codes, texts}
@@ -24,7 +22,7 @@ use Rattle.refusals.specs.Table.{fieldContent, companionBlank, neededBlank}
 use Rattle.refusals.specs.declared.Refusal.{Refusal}
 use Rattle.refusals.specs.declared.Verdict.{Verdict}
 use Rattle.refusals.specs.declared.Verdict.the-variants.{Accepted, Refused}
-use Rattle.leg.specs.Terminator.{terminatorOf, terminatorAt, inOrder, nameOf, numberOf, needed}
+use Rattle.leg.specs.Terminator.{terminatorOf, inOrder, nameOf, numberOf, needed}
 use Rattle.leg.specs.declared.terminator.Terminator.{Terminator}
 use Rattle.leg.specs.Stages.{oddOne, missing, asks, companionColumn, neededOf, neededColumn}
 use Rattle.leg.specs.Judge.{stage, judgedLeg, byKind, judged}
@@ -147,23 +145,19 @@ module _ (rec : List ℕ) where
 
 -- ---- the terminator that a legal record names
 
--- what holds of each of a list holds of a member
-abbrev EachOf : (List ℕ → Type 0) → List (List ℕ) → Type 0
-EachOf P [] = Unit {0}
-EachOf P (p ∷ ps) = P p × EachOf P ps
+-- a name of the list is the name of a terminator
+names-are : texts terminators ≡ map nameOf inOrder
+unfolding terminators texts codes nameOf numberOf inOrder
+names-are = refl
 
-of-member : (P : List ℕ → Type 0) (ps : List (List ℕ)) (f : List ℕ) → EachOf P ps → List·Memᴰ f ps → P f
-of-member P [] f h m = absurd (List·Memᴰ·not-nil m)
-of-member P (p ∷ ps) f h m = ⊎-elim (λ e. subst P (sym e) (h .0)) (λ n. of-member P ps f (h .1) n) (List·Memᴰ·cases-cons m)
+named : (ts : List Terminator) (f : List ℕ) → List·Memᴰ f (map nameOf ts) → (t : Terminator) × (f ≡ nameOf t)
+named [] f m = absurd (List·Memᴰ·not-nil m)
+named (t ∷ ts) f m = ⊎-elim (λ e. (t, e)) (named ts f) (List·Memᴰ·cases-cons m)
 
-abbrev NamedBack : List ℕ → Type 0
-NamedBack f = f ≡ nameOf (terminatorOf f)
-
-named-back : (f : List ℕ) → List·Memᴰ f (texts terminators) → NamedBack f
-unfolding terminators texts codes nameOf numberOf terminatorOf terminatorAt inOrder firstAt equal order
+named-back : (f : List ℕ) → List·Memᴰ f (texts terminators) → f ≡ nameOf (terminatorOf f)
 named-back f m =
-    of-member NamedBack (texts terminators) f
-    (refl, (refl, (refl, (refl, (refl, (refl, (refl, (refl, (refl, (refl, (refl, (refl, (refl, (refl, (refl, (refl, (refl, (refl, (refl, (refl, (refl, (refl, (refl, tt))))))))))))))))))))))) m
+    let r = named inOrder f (rw names-are at m) in
+    r .1 ∙ ap nameOf (sym (ap terminatorOf (r .1) ∙ row-of (r .0) .its-name))
 
 -- ---- the whole
 

@@ -1,16 +1,19 @@
 -- Laws of the terminators: the code's tables hold, for each, what the definitions say of it; and a name is read back.
 -- Assumes nothing.
 use mathlib.Core.Path.{_≡_, refl, sym, ap, _∙_}
-use mathlib.Core.Bool.{Bool, cond}
+use mathlib.Core.Bool.{Bool, false, cond, not, _&&_, _||_, or-false}
 use mathlib.Core.List.{List, [], _∷_, _++_, map}
-use Prim.Native.Nat.{ℕ, zero, suc, _+_, _*_, _≤_, _<_}
+use Prim.Native.Nat.{ℕ, zero, suc, _+_, _*_, _-_, _≤_, _<_}
 use native.Mathlib.Omega.{arith}
 use native.Mathlib.Nat.{le-of-suc-le-suc, not-suc-le-zero}
 use lib.Dec.{eqb}
-use lib.ListN.{length, getD, List·getD-eq-default}
-use Rattle.slices.specs.Part.{part}
+use lib.ListN.{length, getD, replicate, List·getD-eq-default}
+use borrow.Author.Tests.{eqb-true, eqb-false}
+use Rattle.slices.specs.Part.{part, member}
 use Rattle.slices.specs.Order.{order, equal}
 use Rattle.slices.specs.Search.{firstAt}
+use Rattle.slices.proofs.Cases.{split}
+use Rattle.slices.proofs.PartLaws.{getD-any, member-append, member-replicate}
 use Rattle.columns.specs.Patterns.{codes, texts}
 use Rattle.columns.specs.Terminators.{terminators}
 use Rattle.leg.specs.Terminator.{inOrder, numberOf, nameOf, terminatorAt, terminatorOf, pairs, needs, needed, among, endsAtFix, isHolding}
@@ -21,10 +24,13 @@ abbrev joined : List (List ℕ) → List ℕ
 joined [] = []
 joined (x ∷ xs) = x ++ joined xs
 
--- the code's tables
+-- the code's tables: what each needs in eight places, blank past its letters; and a 1 or a 0 each
+abbrev eight : List ℕ → List ℕ
+eight xs = xs ++ replicate (8 - length xs) 32
+
 unfoldable pub neededTable : List ℕ
 unfolding inOrder needed needs codes
-neededTable = joined (map needed inOrder)
+neededTable = joined (map (λ t. eight (needed t)) inOrder)
 
 abbrev flag : Bool → ℕ
 flag b = cond b 49 48
@@ -39,36 +45,46 @@ holdingsTable = map (λ t. flag (isHolding t)) inOrder
 
 -- what they hold of one terminator, and its name read back
 pub record RowOf (t : Terminator) : Type 0 where
-  pub its-needs : part 8 (numberOf t * 8) neededTable ≡ needed t
+  pub its-needs : part 8 (numberOf t * 8) neededTable ≡ eight (needed t)
+  pub its-letters : member 32 (needed t) ≡ false
   pub its-end : eqb (getD endsTable (numberOf t) 0) 49 ≡ endsAtFix t
   pub its-holding : eqb (getD holdingsTable (numberOf t) 0) 49 ≡ isHolding t
   pub its-name : terminatorOf (nameOf t) ≡ t
 
 pub row-of : (t : Terminator) → RowOf t
-unfolding neededTable endsTable holdingsTable numberOf part terminatorOf terminatorAt firstAt
-row-of Af = record { its-needs = refl; its-end = refl; its-holding = refl; its-name = refl }
-row-of Ca = record { its-needs = refl; its-end = refl; its-holding = refl; its-name = refl }
-row-of Cd = record { its-needs = refl; its-end = refl; its-holding = refl; its-name = refl }
-row-of Cf = record { its-needs = refl; its-end = refl; its-holding = refl; its-name = refl }
-row-of Ci = record { its-needs = refl; its-end = refl; its-holding = refl; its-name = refl }
-row-of Cr = record { its-needs = refl; its-end = refl; its-holding = refl; its-name = refl }
-row-of Df = record { its-needs = refl; its-end = refl; its-holding = refl; its-name = refl }
-row-of Fa = record { its-needs = refl; its-end = refl; its-holding = refl; its-name = refl }
-row-of Fc = record { its-needs = refl; its-end = refl; its-holding = refl; its-name = refl }
-row-of Fd = record { its-needs = refl; its-end = refl; its-holding = refl; its-name = refl }
-row-of Fm = record { its-needs = refl; its-end = refl; its-holding = refl; its-name = refl }
-row-of Ha = record { its-needs = refl; its-end = refl; its-holding = refl; its-name = refl }
-row-of Hf = record { its-needs = refl; its-end = refl; its-holding = refl; its-name = refl }
-row-of Hm = record { its-needs = refl; its-end = refl; its-holding = refl; its-name = refl }
-row-of If = record { its-needs = refl; its-end = refl; its-holding = refl; its-name = refl }
-row-of Pi = record { its-needs = refl; its-end = refl; its-holding = refl; its-name = refl }
-row-of Rf = record { its-needs = refl; its-end = refl; its-holding = refl; its-name = refl }
-row-of Tf = record { its-needs = refl; its-end = refl; its-holding = refl; its-name = refl }
-row-of Va = record { its-needs = refl; its-end = refl; its-holding = refl; its-name = refl }
-row-of Vd = record { its-needs = refl; its-end = refl; its-holding = refl; its-name = refl }
-row-of Vi = record { its-needs = refl; its-end = refl; its-holding = refl; its-name = refl }
-row-of Vm = record { its-needs = refl; its-end = refl; its-holding = refl; its-name = refl }
-row-of Vr = record { its-needs = refl; its-end = refl; its-holding = refl; its-name = refl }
+unfolding neededTable endsTable holdingsTable numberOf part member terminatorOf terminatorAt firstAt
+row-of Af = record { its-needs = refl; its-letters = refl; its-end = refl; its-holding = refl; its-name = refl }
+row-of Ca = record { its-needs = refl; its-letters = refl; its-end = refl; its-holding = refl; its-name = refl }
+row-of Cd = record { its-needs = refl; its-letters = refl; its-end = refl; its-holding = refl; its-name = refl }
+row-of Cf = record { its-needs = refl; its-letters = refl; its-end = refl; its-holding = refl; its-name = refl }
+row-of Ci = record { its-needs = refl; its-letters = refl; its-end = refl; its-holding = refl; its-name = refl }
+row-of Cr = record { its-needs = refl; its-letters = refl; its-end = refl; its-holding = refl; its-name = refl }
+row-of Df = record { its-needs = refl; its-letters = refl; its-end = refl; its-holding = refl; its-name = refl }
+row-of Fa = record { its-needs = refl; its-letters = refl; its-end = refl; its-holding = refl; its-name = refl }
+row-of Fc = record { its-needs = refl; its-letters = refl; its-end = refl; its-holding = refl; its-name = refl }
+row-of Fd = record { its-needs = refl; its-letters = refl; its-end = refl; its-holding = refl; its-name = refl }
+row-of Fm = record { its-needs = refl; its-letters = refl; its-end = refl; its-holding = refl; its-name = refl }
+row-of Ha = record { its-needs = refl; its-letters = refl; its-end = refl; its-holding = refl; its-name = refl }
+row-of Hf = record { its-needs = refl; its-letters = refl; its-end = refl; its-holding = refl; its-name = refl }
+row-of Hm = record { its-needs = refl; its-letters = refl; its-end = refl; its-holding = refl; its-name = refl }
+row-of If = record { its-needs = refl; its-letters = refl; its-end = refl; its-holding = refl; its-name = refl }
+row-of Pi = record { its-needs = refl; its-letters = refl; its-end = refl; its-holding = refl; its-name = refl }
+row-of Rf = record { its-needs = refl; its-letters = refl; its-end = refl; its-holding = refl; its-name = refl }
+row-of Tf = record { its-needs = refl; its-letters = refl; its-end = refl; its-holding = refl; its-name = refl }
+row-of Va = record { its-needs = refl; its-letters = refl; its-end = refl; its-holding = refl; its-name = refl }
+row-of Vd = record { its-needs = refl; its-letters = refl; its-end = refl; its-holding = refl; its-name = refl }
+row-of Vi = record { its-needs = refl; its-letters = refl; its-end = refl; its-holding = refl; its-name = refl }
+row-of Vm = record { its-needs = refl; its-letters = refl; its-end = refl; its-holding = refl; its-name = refl }
+row-of Vr = record { its-needs = refl; its-letters = refl; its-end = refl; its-holding = refl; its-name = refl }
+
+-- a letter is needed exactly when it is no blank and stands in the row of the table
+pub row-needs : (t : Terminator) (b : ℕ) → (not (eqb b 32) && member b (part 8 (numberOf t * 8) neededTable)) ≡ member b (needed t)
+row-needs t b =
+    split (eqb b 32) (λ e. let q : b ≡ 32 = eqb-true b 32 e in rw q (sym (row-of t .its-letters)))
+    (λ e.
+    rw (e, row-of t .its-needs, member-append b (needed t) (replicate (8 - length (needed t)) 32))
+    (ap (λ (x : Bool). member b (needed t) || x) (member-replicate b 32 (8 - length (needed t)) (λ q. eqb-false b 32 e (sym q)))
+    ∙ or-false (member b (needed t))))
 
 -- the names in the code are those of the list
 unfoldable pub namesTable : List ℕ
@@ -101,14 +117,9 @@ pub name-test : (t rec : List ℕ) (at i : ℕ) → at ≡ 47 → i < 23 → {r 
 name-test t rec at i q h e = let z : 0 + i * 2 ≡ i * 2 = omega arith in rw (getD-pairs t 23 0 i h, z, ← q, e)
 
 -- within the order no default is asked for
-any-default : {A : Type 0} (xs : List A) (i : ℕ) (d e : A) → i < length xs → getD xs i d ≡ getD xs i e
-any-default [] i d e h = absurd (not-suc-le-zero h)
-any-default (x ∷ xs) zero d e h = refl
-any-default (x ∷ xs) (suc i) d e h = any-default xs i d e (le-of-suc-le-suc h)
-
 pub in-order : (n : ℕ) (d : Terminator) → n < 23 → getD inOrder n d ≡ terminatorAt n
 unfolding terminatorAt inOrder
-in-order n d h = any-default inOrder n d Vr h
+in-order n d h = getD-any inOrder n d Vr h
 
 -- past the last one it is the last one
 pub past : (n : ℕ) → 23 ≤ n → terminatorAt n ≡ Vr

@@ -6,14 +6,14 @@ use Prim.Native.Char.{Char, code}
 use mathlib.Core.Path.{_≡_}
 use mathlib.Core.Logic.{_⊎_}
 use mathlib.Core.List.{List, List·Memᴰ}
-use lib.ListN.{length, replicate}
+use lib.ListN.{length}
 use Rattle.columns.specs.Rows.{byteIn}
-use Rattle.columns.specs.Words.{columns, PrimaryContent, ContinuationContent}
+use Rattle.columns.specs.Words.{columns, Blank, PrimaryContent, ContinuationContent}
 use Rattle.leg.specs.Terminator.{nameOf, needed}
 use Rattle.leg.specs.declared.terminator.Terminator.{Terminator}
 
 abbrev pub AllBlank : List ℕ → Type 0
-AllBlank f = f ≡ replicate (length f) 32
+AllBlank f = Blank (length f) f
 
 abbrev pub Filled : List ℕ → Type 0
 Filled f = AllBlank f → ⊥

@@ -3,8 +3,8 @@
 use Prim.Native.Nat.{ℕ, zero, suc, _+_}
 use Prim.Native.String.{String}
 use mathlib.Core.Bool.{Bool, false, _||_}
-use mathlib.Core.List.{List, [], _∷_, _++_}
-use lib.ListN.{getD, take, replicate}
+use mathlib.Core.List.{List, [], _∷_}
+use lib.ListN.{getD}
 use Rattle.slices.specs.Part.{part}
 use Rattle.slices.specs.Order.{equal}
 use Rattle.slices.specs.Search.{firstAt}
@@ -84,9 +84,9 @@ needs Hm = "FTCD"
 needs Ha = "FTCDA"
 needs Pi = "FTNHRCDA"
 
--- the same, eight letters with blanks at the end
+-- the same as bytes
 unfoldable pub needed : Terminator → List ℕ
-needed t = take 8 (codes (needs t) ++ replicate 8 32)
+needed t = codes (needs t)
 
 unfoldable pub among : List ℕ → List (List ℕ) → Bool
 among f [] = false

@@ -37,7 +37,7 @@ pub enum Terminator {
 // For each terminator its two letters.
 const NAMES: [u8; 46] = *b"AFCACDCFCICRDFFAFCFDFMHAHFHMIFPIRFTFVAVDVIVMVR";
 
-// For each terminator the letters of the fields that it needs, then blanks, eight in all.
+// For each terminator the letters of the fields that it needs, and blanks up to eight places.
 const NEEDED: [u8; 184] =
     *b"FTNHRC  CA      NCD     FNHRCD  C       NHC     F       FNHRCA  FNHRCD  FNHRCD  FNHRC   FTCDA   FTCD    FTCD    F       FTNHRCDAFTDXO   F       CA      NCD     C       C       NHC     ";
 
@@ -168,7 +168,7 @@ impl Terminator {
         ensures { λ r. ⌜ r ≡ member letter (needed self) ⌝ }
     {
         let n = self.number();
-        has(&NEEDED, n * 8, 8, letter)
+        (letter != b' ') & has(&NEEDED, n * 8, 8, letter)
     }
 
     // Whether the leg ends at a fix.

@@ -32,6 +32,7 @@ pub or-right : (a b : Bool) → b ≡ true → (a || b) ≡ true
 or-right true b e = refl
 or-right false b e = e
 
+-- a joint test says what its tests say
 pub or-iff : {A B : Type 0} (s t : Bool) → (s ≡ true) ↔ A → (t ≡ true) ↔ B → ((s || t) ≡ true) ↔ (A ⊎ B)
 or-iff {A} {B} s t p q = (λ e. ⊎-elim (λ x. inl (p .0 x)) (λ x. inr (q .0 x)) (either s t e), from)
   where

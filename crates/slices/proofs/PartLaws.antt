@@ -1,8 +1,9 @@
--- Laws of runs of bytes: their length, their bytes, joining two, and where they are a plain cut of the list; and of blank ones.
+-- Laws of runs of bytes: their length, their bytes, joining two, and where they are a plain cut of the list; of blank ones, and of
+-- the bytes that a run has.
 -- Assumes nothing.
 use mathlib.Core.Path.{_≡_, refl, sym, ap, ap₂, _∙_}
 use mathlib.Core.Logic.{_↔_, ⊎-elim}
-use mathlib.Core.Bool.{true, false≢true}
+use mathlib.Core.Bool.{Bool, true, false, _||_, false≢true, or-assoc}
 use mathlib.Core.List.{List, [], _∷_, _++_, List·Memᴰ, List·Memᴰ·head, List·Memᴰ·tail}
 use Prim.Native.Nat.{ℕ, zero, suc, _+_, _-_, _≤_, _<_}
 use native.Mathlib.Omega.{arith}
@@ -10,13 +11,19 @@ use native.Mathlib.Nat.{sub-zero, add-zero, le-of-suc-le-suc, not-suc-le-zero}
 use lib.ListN.{length, getD, take, drop, replicate}
 use lib.Seq.{drop-cons}
 use lib.Dec.{eqb}
-use borrow.Author.Tests.{eqb-true, eq-eqb}
+use borrow.Author.Tests.{eqb-true, eq-eqb, ne-eqb}
 use Rattle.slices.specs.Part.{part, blank, member}
 use Rattle.slices.proofs.Cases.{and-left, and-right, either, or-left, or-right}
 
 -- what is left of a count after k
 pub one-less : (n k : ℕ) → k < n → n - k ≡ suc (n - (k + 1))
 one-less n k h = omega arith
+
+-- within a list no default is asked for
+pub getD-any : {A : Type 0} (xs : List A) (i : ℕ) (d e : A) → i < length xs → getD xs i d ≡ getD xs i e
+getD-any [] i d e h = absurd (not-suc-le-zero h)
+getD-any (x ∷ xs) zero d e h = refl
+getD-any (x ∷ xs) (suc i) d e h = getD-any xs i d e (le-of-suc-le-suc h)
 
 pub length-part : (n i : ℕ) (xs : List ℕ) → length (part n i xs) ≡ n
 unfolding part
@@ -96,3 +103,13 @@ in-member b (x ∷ xs) (List·Memᴰ·tail m) = or-right (eqb x b) (member b xs)
 
 pub member-iff : (b : ℕ) (xs : List ℕ) → (member b xs ≡ true) ↔ List·Memᴰ b xs
 member-iff b xs = (member-in b xs, in-member b xs)
+
+pub member-append : (b : ℕ) (xs ys : List ℕ) → member b (xs ++ ys) ≡ (member b xs || member b ys)
+unfolding member
+member-append b [] ys = refl
+member-append b (x ∷ xs) ys = ap (λ (t : Bool). eqb x b || t) (member-append b xs ys) ∙ sym (or-assoc (eqb x b) (member b xs) (member b ys))
+
+pub member-replicate : (b x n : ℕ) → (x ≡ b → ⊥) → member b (replicate n x) ≡ false
+unfolding member
+member-replicate b x zero h = refl
+member-replicate b x (suc n) h = rw (ne-eqb x b h) (member-replicate b x n h)

@@ -1,4 +1,5 @@
--- One turn of the loops that compare, that look for blanks and that look for a byte, as an equation between what is left before it and after it.
+-- One turn of the loops that compare, that look for blanks and that look for a byte, as an equation between what is left before it
+-- and after it.
 -- Assumes nothing.
 use mathlib.Core.Path.{_≡_, _∙_}
 use mathlib.Core.Bool.{Bool, true, false, _&&_, _||_}

@@ -1,8 +1,6 @@
 -- The row of the table is what the terminator needs. Assumes nothing.
 use borrow.Author.Needs.{needs}
-use mathlib.Core.Path.{ap, _∙_}
-use Rattle.slices.specs.Part.{member}
-use Rattle.leg.proofs.TerminatorLaws.{row-of, neededTable}
+use Rattle.leg.proofs.TerminatorLaws.{row-needs, neededTable}
 use Rattle.leg.proofs.terminator.Terminator.needed.Statement.{statement}
 use Rattle.leg.proofs.terminator.Terminator.needed.Tie as tie
 
@@ -20,7 +18,7 @@ has-requires c κs = search needs
 
 returns : tie.Need-returns
 unfolding neededTable
-returns c = c .has .ensures ∙ rw (c .before .before .number .ensures .0) (ap (member _) (row-of _ .its-needs))
+returns c = rw (c .has .ensures, c .before .before .number .ensures .0) (row-needs _ _)
 
 pub needed-spec : {M : Type 1} → statement M
 needed-spec = tie.close (tie.spec number-requires slice-aggregate-has mul-has has-requires returns)
