@@ -20,12 +20,11 @@ pub use parts::{Continuation, Frame, Leg, Parts};
 pub use record::{read, write};
 
 /// The stored files, by their paths from this package, and what they hold.
-pub fn stored_files() -> [(&'static str, Vec<u8>); 3] {
+pub fn stored_files() -> [(&'static str, Vec<u8>); 2] {
     let set = cases::all();
     [
         ("../crates/vectors_record/data/records.bin", cases::stored(&set)),
-        ("../crates/vectors_record/stdout", report::judged(&set).into_bytes()),
-        ("answers/read_and_written.txt", report::read_and_written(&set).into_bytes()),
+        ("../crates/vectors_record/stdout", report::all(&set).into_bytes()),
     ]
 }
 

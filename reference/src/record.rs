@@ -42,6 +42,11 @@ pub fn write(parts: &Parts) -> Result<[u8; 133], Refusal> {
         }
     };
     frame.put(&mut record);
+    // A number of the other kind is the content of no column 39 of this one.
+    let numbered = matches!(parts, Parts::Continuation(..));
+    if continues(frame.continuation_number) != numbered {
+        record[38] = 0;
+    }
     match judge(&record[..132]) {
         Ok(()) => Ok(record),
         Err((number, column)) => Err(Refusal { number, place: 0, column }),

@@ -1,6 +1,5 @@
-//! The answers to the stored set as text. Judged: a line a case, and the sweep
-//! of each column over all bytes. Read and written: a line a case with the
-//! values of its parts, and writes with one part changed.
+//! The answers to the stored set as text: a line a case with the values of its
+//! parts, writes with parts changed, and the sweep of each column over all bytes.
 
 use crate::cases;
 use crate::judge::judge;
@@ -8,28 +7,14 @@ use crate::parts::*;
 use crate::record::{read, write};
 use crate::Refusal;
 
-/// What judging says: of each case, and of every byte in every column of the
-/// first two.
-pub fn judged(cases: &[Vec<u8>]) -> String {
-    let mut lines: Vec<String> = cases.iter().map(|case| verdict(case)).collect();
+/// What reading each case alone gives, what writing changed parts gives, and
+/// what judging says of every byte in every column of the first two cases.
+pub fn all(cases: &[Vec<u8>]) -> String {
+    let mut lines: Vec<String> = cases.iter().map(|case| answer(case)).collect();
+    lines.extend(writes());
     lines.extend((1..=132).map(|column| sweep("leg", &cases[0], column)));
     lines.extend((1..=132).map(|column| sweep("continuation", &cases[1], column)));
     lines.join("\n") + "\n"
-}
-
-/// What reading each case alone gives, and what writing changed parts gives.
-pub fn read_and_written(cases: &[Vec<u8>]) -> String {
-    let mut lines: Vec<String> = cases.iter().map(|case| answer(case)).collect();
-    lines.extend(writes());
-    lines.join("\n") + "\n"
-}
-
-/// The columns of one case, judged as the record at place 1.
-fn verdict(case: &[u8]) -> String {
-    match judge(case) {
-        Ok(()) => "yes".to_string(),
-        Err((number, column)) => refused(Refusal { number, place: 1, column }),
-    }
 }
 
 /// The line of one case, read and written again.
@@ -124,7 +109,7 @@ fn sweep(kind: &str, case: &[u8], column: usize) -> String {
 }
 
 /// The changes of case 1 that are written, in order.
-const LEG_CHANGES: [fn(&mut Frame, &mut Leg); 40] = [
+const LEG_CHANGES: [fn(&mut Frame, &mut Leg); 41] = [
     |_, _| {},
     |frame, _| frame.sequence = 0,
     |frame, _| frame.sequence = 1000,
@@ -165,6 +150,7 @@ const LEG_CHANGES: [fn(&mut Frame, &mut Leg); 40] = [
     |_, leg| (leg.altitude_description, leg.altitude2) = (b'B', None),
     |_, leg| (leg.altitude_description, leg.altitude1, leg.altitude2) = (b'B', None, None),
     |frame, leg| (leg.theta, leg.course, frame.fix) = (Some(TenthsOfDegree(3601)), None, None),
+    |frame, _| frame.continuation_number = b'2',
 ];
 
 /// The changes of case 2 that are written, in order.

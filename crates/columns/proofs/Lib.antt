@@ -6,6 +6,7 @@ pub mod PatternLaws
 pub mod RowLaws
 pub mod Tied
 pub mod Tiled
+pub mod Printable
 pub mod WordLaws
 mod Turns
 pub mod Vectors

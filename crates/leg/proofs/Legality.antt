@@ -39,7 +39,7 @@ not-blank f h = split (blank f) (λ e. absurd (h (blank-iff f .0 e))) (λ e. e)
 
 -- ---- one stage
 
-stage-iff : (c : ℕ) (f : ℕ → Refusal) (next : Verdict) → (stage c f next ≡ Accepted) ↔ ((c ≡ 0) × (next ≡ Accepted))
+pub stage-iff : (c : ℕ) (f : ℕ → Refusal) (next : Verdict) → (stage c f next ≡ Accepted) ↔ ((c ≡ 0) × (next ≡ Accepted))
 unfolding stage
 stage-iff c f next = (to, λ h. rw (h .0) (h .1))
   where
@@ -154,7 +154,8 @@ named : (ts : List Terminator) (f : List ℕ) → List·Memᴰ f (map nameOf ts)
 named [] f m = absurd (List·Memᴰ·not-nil m)
 named (t ∷ ts) f m = ⊎-elim (λ e. (t, e)) (named ts f) (List·Memᴰ·cases-cons m)
 
-named-back : (f : List ℕ) → List·Memᴰ f (texts terminators) → f ≡ nameOf (terminatorOf f)
+-- the name of a terminator, read and written again
+pub named-back : (f : List ℕ) → List·Memᴰ f (texts terminators) → f ≡ nameOf (terminatorOf f)
 named-back f m =
     let r = named inOrder f (rw names-are at m) in
     r .1 ∙ ap nameOf (sym (ap terminatorOf (r .1) ∙ row-of (r .0) .its-name))

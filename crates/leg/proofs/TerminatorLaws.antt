@@ -3,6 +3,7 @@
 use mathlib.Core.Path.{_≡_, refl, sym, ap, _∙_}
 use mathlib.Core.Bool.{Bool, false, cond, not, _&&_, _||_, or-false}
 use mathlib.Core.List.{List, [], _∷_, _++_, map}
+use Prim.Native.Char.{code}
 use Prim.Native.Nat.{ℕ, zero, suc, _+_, _*_, _-_, _≤_, _<_}
 use native.Mathlib.Omega.{arith}
 use native.Mathlib.Nat.{le-of-suc-le-suc, not-suc-le-zero}
@@ -50,32 +51,34 @@ pub record RowOf (t : Terminator) : Type 0 where
   pub its-end : eqb (getD endsTable (numberOf t) 0) 49 ≡ endsAtFix t
   pub its-holding : eqb (getD holdingsTable (numberOf t) 0) 49 ≡ isHolding t
   pub its-name : terminatorOf (nameOf t) ≡ t
+  pub its-width : length (nameOf t) ≡ 2
+  pub its-letter : eqb (getD (nameOf t) 0 0) (code "H") ≡ isHolding t
 
 pub row-of : (t : Terminator) → RowOf t
 unfolding neededTable endsTable holdingsTable numberOf part member terminatorOf terminatorAt firstAt
-row-of Af = record { its-needs = refl; its-letters = refl; its-end = refl; its-holding = refl; its-name = refl }
-row-of Ca = record { its-needs = refl; its-letters = refl; its-end = refl; its-holding = refl; its-name = refl }
-row-of Cd = record { its-needs = refl; its-letters = refl; its-end = refl; its-holding = refl; its-name = refl }
-row-of Cf = record { its-needs = refl; its-letters = refl; its-end = refl; its-holding = refl; its-name = refl }
-row-of Ci = record { its-needs = refl; its-letters = refl; its-end = refl; its-holding = refl; its-name = refl }
-row-of Cr = record { its-needs = refl; its-letters = refl; its-end = refl; its-holding = refl; its-name = refl }
-row-of Df = record { its-needs = refl; its-letters = refl; its-end = refl; its-holding = refl; its-name = refl }
-row-of Fa = record { its-needs = refl; its-letters = refl; its-end = refl; its-holding = refl; its-name = refl }
-row-of Fc = record { its-needs = refl; its-letters = refl; its-end = refl; its-holding = refl; its-name = refl }
-row-of Fd = record { its-needs = refl; its-letters = refl; its-end = refl; its-holding = refl; its-name = refl }
-row-of Fm = record { its-needs = refl; its-letters = refl; its-end = refl; its-holding = refl; its-name = refl }
-row-of Ha = record { its-needs = refl; its-letters = refl; its-end = refl; its-holding = refl; its-name = refl }
-row-of Hf = record { its-needs = refl; its-letters = refl; its-end = refl; its-holding = refl; its-name = refl }
-row-of Hm = record { its-needs = refl; its-letters = refl; its-end = refl; its-holding = refl; its-name = refl }
-row-of If = record { its-needs = refl; its-letters = refl; its-end = refl; its-holding = refl; its-name = refl }
-row-of Pi = record { its-needs = refl; its-letters = refl; its-end = refl; its-holding = refl; its-name = refl }
-row-of Rf = record { its-needs = refl; its-letters = refl; its-end = refl; its-holding = refl; its-name = refl }
-row-of Tf = record { its-needs = refl; its-letters = refl; its-end = refl; its-holding = refl; its-name = refl }
-row-of Va = record { its-needs = refl; its-letters = refl; its-end = refl; its-holding = refl; its-name = refl }
-row-of Vd = record { its-needs = refl; its-letters = refl; its-end = refl; its-holding = refl; its-name = refl }
-row-of Vi = record { its-needs = refl; its-letters = refl; its-end = refl; its-holding = refl; its-name = refl }
-row-of Vm = record { its-needs = refl; its-letters = refl; its-end = refl; its-holding = refl; its-name = refl }
-row-of Vr = record { its-needs = refl; its-letters = refl; its-end = refl; its-holding = refl; its-name = refl }
+row-of Af = record { its-needs = refl; its-letters = refl; its-end = refl; its-holding = refl; its-name = refl; its-width = refl; its-letter = refl }
+row-of Ca = record { its-needs = refl; its-letters = refl; its-end = refl; its-holding = refl; its-name = refl; its-width = refl; its-letter = refl }
+row-of Cd = record { its-needs = refl; its-letters = refl; its-end = refl; its-holding = refl; its-name = refl; its-width = refl; its-letter = refl }
+row-of Cf = record { its-needs = refl; its-letters = refl; its-end = refl; its-holding = refl; its-name = refl; its-width = refl; its-letter = refl }
+row-of Ci = record { its-needs = refl; its-letters = refl; its-end = refl; its-holding = refl; its-name = refl; its-width = refl; its-letter = refl }
+row-of Cr = record { its-needs = refl; its-letters = refl; its-end = refl; its-holding = refl; its-name = refl; its-width = refl; its-letter = refl }
+row-of Df = record { its-needs = refl; its-letters = refl; its-end = refl; its-holding = refl; its-name = refl; its-width = refl; its-letter = refl }
+row-of Fa = record { its-needs = refl; its-letters = refl; its-end = refl; its-holding = refl; its-name = refl; its-width = refl; its-letter = refl }
+row-of Fc = record { its-needs = refl; its-letters = refl; its-end = refl; its-holding = refl; its-name = refl; its-width = refl; its-letter = refl }
+row-of Fd = record { its-needs = refl; its-letters = refl; its-end = refl; its-holding = refl; its-name = refl; its-width = refl; its-letter = refl }
+row-of Fm = record { its-needs = refl; its-letters = refl; its-end = refl; its-holding = refl; its-name = refl; its-width = refl; its-letter = refl }
+row-of Ha = record { its-needs = refl; its-letters = refl; its-end = refl; its-holding = refl; its-name = refl; its-width = refl; its-letter = refl }
+row-of Hf = record { its-needs = refl; its-letters = refl; its-end = refl; its-holding = refl; its-name = refl; its-width = refl; its-letter = refl }
+row-of Hm = record { its-needs = refl; its-letters = refl; its-end = refl; its-holding = refl; its-name = refl; its-width = refl; its-letter = refl }
+row-of If = record { its-needs = refl; its-letters = refl; its-end = refl; its-holding = refl; its-name = refl; its-width = refl; its-letter = refl }
+row-of Pi = record { its-needs = refl; its-letters = refl; its-end = refl; its-holding = refl; its-name = refl; its-width = refl; its-letter = refl }
+row-of Rf = record { its-needs = refl; its-letters = refl; its-end = refl; its-holding = refl; its-name = refl; its-width = refl; its-letter = refl }
+row-of Tf = record { its-needs = refl; its-letters = refl; its-end = refl; its-holding = refl; its-name = refl; its-width = refl; its-letter = refl }
+row-of Va = record { its-needs = refl; its-letters = refl; its-end = refl; its-holding = refl; its-name = refl; its-width = refl; its-letter = refl }
+row-of Vd = record { its-needs = refl; its-letters = refl; its-end = refl; its-holding = refl; its-name = refl; its-width = refl; its-letter = refl }
+row-of Vi = record { its-needs = refl; its-letters = refl; its-end = refl; its-holding = refl; its-name = refl; its-width = refl; its-letter = refl }
+row-of Vm = record { its-needs = refl; its-letters = refl; its-end = refl; its-holding = refl; its-name = refl; its-width = refl; its-letter = refl }
+row-of Vr = record { its-needs = refl; its-letters = refl; its-end = refl; its-holding = refl; its-name = refl; its-width = refl; its-letter = refl }
 
 -- a letter is needed exactly when it is no blank and stands in the row of the table
 pub row-needs : (t : Terminator) (b : ℕ) → (not (eqb b 32) && member b (part 8 (numberOf t * 8) neededTable)) ≡ member b (needed t)
@@ -110,6 +113,13 @@ unfolding pairs
 getD-pairs t zero p i h = absurd (not-suc-le-zero h)
 getD-pairs t (suc n) p zero h = let e : p + 0 * 2 ≡ p = omega arith in rw e
 getD-pairs t (suc n) p (suc i) h = let e : p + 2 + i * 2 ≡ p + suc i * 2 = omega arith in getD-pairs t n (p + 2) i (le-of-suc-le-suc h) ∙ rw e
+
+-- the name of a terminator, as the code has it
+pub name-at : (t : Terminator) → numberOf t < 23 → part 2 (numberOf t * 2) namesTable ≡ nameOf t
+unfolding nameOf
+name-at t h =
+    let e : 0 + numberOf t * 2 ≡ numberOf t * 2 = omega arith in
+    sym (ap (λ (ps : List (List ℕ)). getD ps (numberOf t) []) names-tied ∙ getD-pairs namesTable 23 0 (numberOf t) h ∙ rw e)
 
 -- the test that the search makes at one place
 pub name-test : (t rec : List ℕ) (at i : ℕ) → at ≡ 47 → i < 23 → {r : Bool} → r ≡ equal (part 2 at rec) (part 2 (i * 2) t)

@@ -1,10 +1,12 @@
 // The 23 path terminators, in the order of the standard's tables. Assumes nothing of the caller.
 ghost use mathlib.Core.Path.{_≡_};
 ghost use Prim.Native.Nat.{_<_};
+ghost use lib.Seq.{sets};
 ghost use Rattle.slices.specs.Part.{part, member};
 ghost use Rattle.slices.specs.Order.{equal};
 ghost use Rattle.slices.specs.Search.{firstAt};
-ghost use Rattle.leg.specs.Terminator.{pairs, numberOf, terminatorAt, terminatorOf, needed, endsAtFix, isHolding};
+ghost use Rattle.leg.specs.Terminator.{pairs, numberOf, nameOf, terminatorAt, terminatorOf, needed, endsAtFix, isHolding};
+use slices::copy;
 use slices::has;
 use slices::same;
 
@@ -160,6 +162,14 @@ impl Terminator {
         ensures { λ r. ⌜ r ≡ terminatorOf (part 2 47 (now (rec .entry))) ⌝ }
     {
         Terminator::at(place_among(&NAMES, rec))
+    }
+
+    // Puts the terminator's two letters into columns 48 and 49 of a record.
+    pub fn put(self, out: &mut [u8])
+        ensures { λ _. ⌜ now (out .exit) ≡ sets (now (out .entry)) 47 (nameOf self) ⌝ }
+    {
+        let n = self.number();
+        copy(&NAMES, n * 2, out, Terminator::column() - 1, 2);
     }
 
     // Whether a leg of this kind needs the field of the letter: F fix, T turn, N navaid, X arc radius, H theta, R rho, C course,

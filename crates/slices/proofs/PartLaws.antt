@@ -9,7 +9,7 @@ use Prim.Native.Nat.{ℕ, zero, suc, _+_, _-_, _≤_, _<_}
 use native.Mathlib.Omega.{arith}
 use native.Mathlib.Nat.{sub-zero, add-zero, le-of-suc-le-suc, not-suc-le-zero}
 use lib.ListN.{length, getD, take, drop, replicate}
-use lib.Seq.{drop-cons}
+use lib.Seq.{drop-cons, take-all}
 use lib.Dec.{eqb}
 use borrow.Author.Tests.{eqb-true, eq-eqb, ne-eqb}
 use Rattle.slices.specs.Part.{part, blank, member}
@@ -38,6 +38,14 @@ getD-part (suc n) i xs (suc k) h =
     let e : suc i + k ≡ i + suc k = omega arith in
     getD-part n (suc i) xs k (le-of-suc-le-suc h) ∙ rw e
 
+-- a run of a run
+pub part-part : (m k n i : ℕ) (xs : List ℕ) → k + m ≤ n → part m k (part n i xs) ≡ part m (i + k) xs
+unfolding part
+part-part zero k n i xs h = refl
+part-part (suc m) k n i xs h =
+    let e : i + suc k ≡ suc (i + k) = omega arith in
+    ap₂ (λ (b : ℕ) (f : List ℕ). b ∷ f) (getD-part n i xs k (omega arith)) (part-part m (suc k) n i xs (omega arith) ∙ rw e)
+
 -- two runs, one behind the other
 pub part-append : (m n i : ℕ) (xs : List ℕ) → part (m + n) i xs ≡ part m i xs ++ part n (i + m) xs
 unfolding part
@@ -56,6 +64,10 @@ unfolding part
 part-take zero i xs h = refl
 part-take (suc n) i xs h =
     rw (drop-cons xs i 0 (omega arith)) (ap (λ (t : List ℕ). getD xs i 0 ∷ t) (part-take n (suc i) xs (omega arith)))
+
+-- a whole list is the run of its length
+pub part-all : (xs : List ℕ) → part (length xs) 0 xs ≡ xs
+part-all xs = part-take (length xs) 0 xs (omega arith) ∙ take-all (length xs) xs (omega arith)
 
 -- a run of which k bytes are passed
 module _ (n i : ℕ) (xs : List ℕ) (k : ℕ) where

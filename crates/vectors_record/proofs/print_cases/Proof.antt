@@ -21,23 +21,20 @@ add-from c = search needs
 case-end-requires : tie.Need-case-end-requires Inv-loop μ-loop
 case-end-requires c κs = search needs
 
-sub-judge : tie.Need-sub-judge Inv-loop μ-loop
-sub-judge c = omega (arith, c .case-end .ensures .0 (c .before .loop-test .taken))
+sub-print-case : tie.Need-sub-print-case Inv-loop μ-loop
+sub-print-case c = omega (arith, c .case-end .ensures .0 (c .before .loop-test .taken))
 
-part-judge-start : tie.Need-part-judge-start Inv-loop μ-loop
-part-judge-start c = omega (arith, c .case-end .ensures .0 (c .before .loop-test .taken))
+part-print-case-start : tie.Need-part-print-case-start Inv-loop μ-loop
+part-print-case-start c = omega (arith, c .case-end .ensures .0 (c .before .loop-test .taken))
 
-part-judge-end : tie.Need-part-judge-end Inv-loop μ-loop
-part-judge-end c = search needs
+part-print-case-end : tie.Need-part-print-case-end Inv-loop μ-loop
+part-print-case-end c = search needs
 
-judge-requires : tie.Need-judge-requires Inv-loop μ-loop
-judge-requires c κs = search needs
-
-print-verdict-requires : tie.Need-print-verdict-requires Inv-loop μ-loop
-print-verdict-requires c κs = search needs
+print-case-requires : tie.Need-print-case-requires Inv-loop μ-loop
+print-case-requires c κs = search needs
 
 loop-less : tie.Need-loop-less Inv-loop μ-loop
-loop-less c = omega (arith, c .before .before .before .case-end .ensures .0 (c .before .before .before .before .loop-test .taken))
+loop-less c = omega (arith, c .before .before .case-end .ensures .0 (c .before .before .before .loop-test .taken))
 
 loop-again : tie.Need-loop-again Inv-loop μ-loop
 loop-again c = tt
@@ -54,11 +51,10 @@ print-cases-spec =
     loop-holds
     add-from
     case-end-requires
-    sub-judge
-    part-judge-start
-    part-judge-end
-    judge-requires
-    print-verdict-requires
+    sub-print-case
+    part-print-case-start
+    part-print-case-end
+    print-case-requires
     loop-less
     loop-again
     returns)
