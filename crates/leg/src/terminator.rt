@@ -96,7 +96,8 @@ impl Terminator {
         Terminator::COLUMN
     }
 
-    fn number(self) -> usize
+    // Its place in the order of the 23, from 0 on.
+    pub fn number(self) -> usize
         ensures { λ r. ⌜ (r ≡ numberOf self) × (r < 23) ⌝ }
     {
         match self {

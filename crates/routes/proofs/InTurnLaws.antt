@@ -1,0 +1,39 @@
+-- Laws of verdicts in turn.
+-- Assumes nothing.
+use mathlib.Core.Path.{_≡_, refl, sym, ap, _∙_}
+use mathlib.Core.Logic.{_↔_}
+use mathlib.Core.List.{List, [], _∷_}
+use Prim.Native.Nat.{ℕ}
+use native.Mathlib.Omega.{arith}
+use Rattle.refusals.specs.declared.Refusal.{Refusal}
+use Rattle.refusals.specs.declared.Verdict.{Verdict}
+use Rattle.refusals.specs.declared.Verdict.the-variants.{Accepted, Refused}
+use Rattle.routes.specs.InTurn.{inTurn}
+
+-- one verdict by itself
+pub alone : (v : Verdict) → inTurn (v ∷ []) ≡ v
+unfolding inTurn
+alone Accepted = refl
+alone (Refused r) = refl
+
+pub first-accepts : (vs : List Verdict) → inTurn (Accepted ∷ vs) ≡ inTurn vs
+unfolding inTurn
+first-accepts vs = refl
+
+-- after one that accepts, the next
+pub goes-on : {v : Verdict} (w : Verdict) → v ≡ Accepted → w ≡ inTurn (v ∷ w ∷ [])
+unfolding inTurn
+goes-on w e = rw e (sym (alone w))
+
+pub stops : {v : Verdict} {r : Refusal} (w : Verdict) → v ≡ Refused r → Refused r ≡ inTurn (v ∷ w ∷ [])
+unfolding inTurn
+stops w e = rw e
+
+-- several in turn are the first, and then the others in turn
+pub in-turn-cons : (v : Verdict) (vs : List Verdict) → inTurn (v ∷ inTurn vs ∷ []) ≡ inTurn (v ∷ vs)
+unfolding inTurn
+in-turn-cons Accepted vs = alone (inTurn vs)
+in-turn-cons (Refused r) vs = refl
+
+pub four-in-turn : (u v w x : Verdict) {y z r : Verdict} → y ≡ inTurn (w ∷ x ∷ []) → z ≡ inTurn (v ∷ y ∷ []) → r ≡ inTurn (u ∷ z ∷ []) → r ≡ inTurn (u ∷ v ∷ w ∷ x ∷ [])
+four-in-turn u v w x p q e = e ∙ rw (q, p, in-turn-cons v (w ∷ x ∷ [])) (in-turn-cons u (v ∷ w ∷ x ∷ []))

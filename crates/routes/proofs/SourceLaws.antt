@@ -1,0 +1,188 @@
+-- Laws of sources: the two cases of where a record lies, and a file's own sources, which give its own records.
+-- Assumes nothing.
+use mathlib.Core.Path.{_≡_, refl, sym, ap, ap₂, _∙_}
+use mathlib.Core.Bool.{true, false}
+use mathlib.Core.List.{List, [], _∷_, _++_, map, append-assoc}
+use Prim.Native.Nat.{ℕ, zero, suc, _+_, _-_, _*_, _≤_, _<_, min}
+use native.Mathlib.Omega.{arith}
+use native.Mathlib.Numerals.{add-one}
+use native.Mathlib.Decide.{decLt}
+use lib.Dec.{eqb}
+use lib.ListN.{length, getD, take, drop, set, replicate, length-take, length-drop, length-map, drop-of-length-le, List·getD-eq-default, List·getD-map}
+use lib.Seq.{set-at, append-snoc, take-at, getD-drop, getD-take, drop-drop, drop-cons, take-all, length-take-le}
+use borrow.Author.Tests.{le-leb, lt-leb, lt-ltb, le-ltb, eq-eqb, ne-eqb, eqb-true}
+use Rattle.slices.proofs.Cases.{split}
+use Rattle.slices.proofs.PartLaws.{one-less}
+use Rattle.routes.specs.Sources.{recordWithin, recordAt, inUse, recordsIn, leading, records, starts, sourcesTo, sourcesOf}
+use Rattle.routes.specs.Walk.{last}
+use Rattle.routes.specs.declared.Sources.{Sources}
+
+-- ---- lists
+
+-- the last of a mapped list
+pub last-map : (g : ℕ → List ℕ) (xs : List ℕ) (d : ℕ) → 1 ≤ length xs → last (map g xs) ≡ g (getD xs (length xs - 1) d)
+unfolding last
+last-map g [] d h = absurd (omega arith)
+last-map g (x ∷ []) d h = refl
+last-map g (x ∷ y ∷ xs) d h = last-map g (y ∷ xs) d (omega arith) ∙ ap g (let e : length xs + 1 - 1 ≡ length xs = omega arith in let k : suc (suc (length xs)) - 1 ≡ suc (length xs) = omega arith in let j : suc (length xs) - 1 ≡ length xs = omega arith in rw (k, j))
+
+-- a byte that is no 0 is within the list
+line-within : (f : List ℕ) (i : ℕ) → getD f i 0 ≡ 10 → i < length f
+line-within f i e =
+    by (decLt i (length f))
+  where
+    by : Dec (i < length f) → i < length f
+    by (yes h) = h
+    by (no h) = let z : getD f i 0 ≡ 0 = List·getD-eq-default f 0 (omega arith) in absurd (omega arith)
+
+-- ---- where a record lies
+
+module _ (s : List ℕ) (at : ℕ) where
+  pub within-not : length s < at + 132 → [] ≡ recordWithin s at
+  unfolding recordWithin
+  within-not h = simp (lt-leb (at + 132) (length s))
+
+  pub within-cut : at + 132 ≤ length s → take (at + 132 - at) (drop at s) ≡ recordWithin s at
+  unfolding recordWithin
+  within-cut h =
+      let e : at + 132 - at ≡ 132 = omega arith in
+      simp (le-leb (at + 132) (length s), e)
+
+module _ (frozen log : List ℕ) (source : ℕ) where
+  pub in-frozen : source < 1000000 → recordWithin frozen source ≡ recordAt frozen log source
+  unfolding recordAt
+  in-frozen h = simp (lt-ltb source 1000000)
+
+  pub in-log : 1000000 ≤ source → recordWithin log (source - 1000000) ≡ recordAt frozen log source
+  unfolding recordAt
+  in-log h = simp (le-ltb source 1000000)
+
+-- ---- a file's own sources
+
+pub length-starts : (at n : ℕ) → length (starts at n) ≡ n
+unfolding starts
+length-starts at zero = refl
+length-starts at (suc n) = ap suc (length-starts (at + 133) n)
+
+-- one more at the end
+pub starts-next : (at n : ℕ) → starts at (suc n) ≡ starts at n ++ ((at + n * 133) ∷ [])
+unfolding starts
+starts-next at zero = let e : at + 0 * 133 ≡ at = omega arith in rw e
+starts-next at (suc n) =
+    let e : at + 133 + n * 133 ≡ at + suc n * 133 = omega arith in
+    ap (λ (t : List ℕ). at ∷ t) (starts-next (at + 133) n ∙ rw e)
+
+-- the sources with one more stored
+pub sources-next : (i : ℕ) (s : Sources) → i < 480 → s ≡ sourcesTo i → record { count = i + 1; at = set (s .at) i (i * 133) } ≡ sourcesTo (i + 1)
+unfolding sourcesTo
+sources-next i s h e =
+    let m : 480 - i ≡ suc (480 - suc i) = omega arith in
+    let z : 0 + i * 133 ≡ i * 133 = omega arith in
+    rw (e, add-one, m, set-at (starts 0 i) 0 (replicate (480 - suc i) 0) (i * 133) i (length-starts 0 i), starts-next 0 i, z)
+    (ap (λ (t : List ℕ). record { count = suc i; at = t }) (sym (append-snoc (starts 0 i) (i * 133) (replicate (480 - suc i) 0))))
+
+-- the records of a file, of which i are passed
+module _ (f : List ℕ) (i : ℕ) where
+  unfoldable pub recordsLeft : ℕ
+  recordsLeft = length (leading (480 - i) (drop (i * 133) f))
+
+  pub left-stop : {b : ℕ} → i < 480 → b ≡ getD f (i * 133 + 132) 0 → (b ≡ 10 → ⊥) → recordsLeft ≡ 0
+  unfolding recordsLeft leading
+  left-stop h e n =
+      let m : 480 - i ≡ suc (480 - (i + 1)) = omega arith in
+      rw (m, getD-drop (i * 133) f 132 0, ← e, ne-eqb _ 10 n)
+
+  pub left-end : 480 ≤ i → recordsLeft ≡ 0
+  unfolding recordsLeft leading
+  left-end h = let m : 480 - i ≡ 0 = omega arith in rw m
+
+pub left-next : (f : List ℕ) (i : ℕ) {b : ℕ} → i < 480 → b ≡ getD f (i * 133 + 132) 0 → b ≡ 10 → recordsLeft f i ≡ suc (recordsLeft f (i + 1))
+unfolding recordsLeft leading
+left-next f i h e n =
+    let m : 480 - i ≡ suc (480 - (i + 1)) = omega arith in
+    let z : i * 133 + 133 ≡ (i + 1) * 133 = omega arith in
+    rw (m, getD-drop (i * 133) f 132 0, ← e, eq-eqb _ 10 n, drop-drop 133 (i * 133) f, z)
+
+pub left-start : (f : List ℕ) → recordsLeft f 0 ≡ length (records f)
+unfolding recordsLeft records
+left-start f = refl
+
+-- what has been found is all there is
+pub found-all : (f : List ℕ) (i : ℕ) {s : Sources} → length (records f) ≡ i + recordsLeft f i → recordsLeft f i ≡ 0 → s ≡ sourcesTo i → s ≡ sourcesOf f
+unfolding sourcesOf
+found-all f i e z h = let q : i ≡ length (records f) = omega arith in h ∙ ap sourcesTo q
+
+-- ---- a range of sources
+
+module _ (f l : List ℕ) (s : Sources) (long : length (s .at) ≡ 480) (to i : ℕ) where
+  pub range-end : min to (min (s .count) 480) ≤ i → recordsIn f l s i to ≡ []
+  unfolding recordsIn inUse
+  range-end h =
+      rw (drop-of-length-le (take to (take (s .count) (s .at))) {i = i} (simp length-take (omega arith)))
+
+  pub range-next : i < min to (min (s .count) 480) → recordsIn f l s i to ≡ recordAt f l (getD (s .at) i 0) ∷ recordsIn f l s (i + 1) to
+  unfolding recordsIn inUse
+  range-next h =
+      let q : i < length (take to (take (s .count) (s .at))) = simp length-take (omega arith) in
+      rw (add-one, drop-cons (take to (take (s .count) (s .at))) i 0 q, getD-take to (take (s .count) (s .at)) i 0 (omega arith), getD-take (s .count) (s .at) i 0 (omega arith))
+
+pub sources-start : record { count = 0; at = replicate 480 0 } ≡ sourcesTo 0
+unfolding sourcesTo starts
+sources-start = refl
+
+pub one-more : (i m n : ℕ) → m ≡ suc n → i + m ≡ i + 1 + n
+one-more i m n e = omega arith
+
+-- ---- the last record of a range, and how many there are
+
+module _ (f l : List ℕ) (s : Sources) (long : length (s .at) ≡ 480) (from to : ℕ) where
+  pub length-range : length (recordsIn f l s from to) ≡ min to (min (s .count) 480) - from
+  unfolding recordsIn inUse
+  length-range = simp (length-map, length-drop, length-take) (omega arith)
+
+  pub last-range : from < min to (min (s .count) 480) → last (recordsIn f l s from to) ≡ recordAt f l (getD (s .at) (min to (min (s .count) 480) - 1) 0)
+  unfolding recordsIn inUse
+  last-range h =
+      let xs = drop from (take to (take (s .count) (s .at))) in
+      let n : length xs ≡ min to (min (s .count) 480) - from = simp (length-drop, length-take) (omega arith) in
+      let k : from + (length xs - 1) ≡ min to (min (s .count) 480) - 1 = omega arith in
+      last-map (recordAt f l) xs 0 (omega arith)
+      ∙ ap (recordAt f l)
+      (getD-drop from (take to (take (s .count) (s .at))) (length xs - 1) 0
+      ∙ rw k (getD-take to (take (s .count) (s .at)) _ 0 (omega arith) ∙ getD-take (s .count) (s .at) _ 0 (omega arith)))
+
+-- ---- a file's own sources give its own records
+
+own-from : (f l : List ℕ) (m at : ℕ) → at + m * 133 ≤ 1000000 → map (recordAt f l) (starts at (length (leading m (drop at f)))) ≡ leading m (drop at f)
+unfolding leading starts
+own-from f l zero at h = refl
+own-from f l (suc m) at h =
+    split (eqb (getD (drop at f) 132 0) 10)
+    (λ e.
+    let line : getD f (at + 132) 0 ≡ 10 = sym (getD-drop at f 132 0) ∙ eqb-true (getD (drop at f) 132 0) 10 e in
+    let width : at + 132 - at ≡ 132 = omega arith in
+    rw (e, drop-drop 133 at f)
+    (ap₂ (λ (r : List ℕ) (rs : List (List ℕ)). r ∷ rs)
+    (sym (in-frozen f l at (omega arith)) ∙ sym (within-cut f at (omega (arith, line-within f (at + 132) line))) ∙ ap (λ (n : ℕ). take n (drop at f)) width)
+    (own-from f l m (at + 133) (omega arith))))
+    (λ e. rw e)
+
+pub own-records : (f l : List ℕ) → recordsIn f l (sourcesOf f) 0 (sourcesOf f .count) ≡ records f
+unfolding recordsIn inUse sourcesOf sourcesTo records
+own-records f l =
+    let n = length (leading 480 f) in
+    rw (take-at (starts 0 n) (replicate (480 - n) 0) n (length-starts 0 n), take-all n (starts 0 n) (omega (arith, length-starts 0 n)))
+    (own-from f l 480 0 (omega arith))
+
+pub at-most : (n : ℕ) (f : List ℕ) → length (leading n f) ≤ n
+unfolding leading
+at-most zero f = omega arith
+at-most (suc n) f =
+    split (eqb (getD f 132 0) 10) (λ e. rw e (omega (arith, at-most n (drop 133 f)))) (λ e. rw e (omega arith))
+
+pub own-count : (f : List ℕ) {s : Sources} → s ≡ sourcesOf f → (s .count ≡ length (records f)) × (s .count ≤ 480)
+unfolding sourcesOf sourcesTo records
+own-count f e = (ap count-of e, rw e (at-most 480 f))
+  where
+    count-of : Sources → ℕ
+    count-of s = s .count

@@ -1,0 +1,18 @@
+use mathlib.Core.Path.{sym, _∙_}
+use Rattle.routes.specs.Stages.{awaits}
+use borrow.Author.Needs.{needs}
+use Rattle.routes.proofs.stages.awaits.Statement.{statement}
+use Rattle.routes.proofs.stages.awaits.Tie as tie
+
+sub-byte-at : tie.Need-sub-byte-at
+sub-byte-at c = search needs
+
+byte-at-requires : tie.Need-byte-at-requires
+byte-at-requires c κs = search needs
+
+returns : tie.Need-returns
+unfolding awaits
+returns c = simp (c .byte-at .ensures)
+
+pub awaits-spec : {M : Type 1} → statement M
+awaits-spec = tie.close (tie.spec sub-byte-at byte-at-requires returns)

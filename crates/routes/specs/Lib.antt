@@ -1,0 +1,7 @@
+-- What the contracts of this crate cite.
+pub mod InTurn
+pub mod Sources
+pub mod Pairs
+pub mod Stages
+pub mod Walk
+pub mod Files

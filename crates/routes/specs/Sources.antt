@@ -1,0 +1,42 @@
+-- Where records lie. A source below 1,000,000 is an offset in the frozen file; any other is 1,000,000 and an offset in the log.
+-- Assumes nothing.
+use Prim.Native.Nat.{ℕ, zero, suc, _+_, _-_}
+use mathlib.Core.Bool.{cond}
+use mathlib.Core.List.{List, [], _∷_, _++_, map}
+use lib.Dec.{eqb, leb, ltb}
+use lib.ListN.{length, getD, take, drop, replicate}
+use Rattle.routes.specs.declared.Sources.{Sources}
+
+-- the 132 bytes from an offset on; nothing where they do not lie wholly within
+unfoldable pub recordWithin : List ℕ → ℕ → List ℕ
+recordWithin s at = cond (leb (at + 132) (length s)) (take 132 (drop at s)) []
+
+unfoldable pub recordAt : List ℕ → List ℕ → ℕ → List ℕ
+recordAt frozen log source = cond (ltb source 1000000) (recordWithin frozen source) (recordWithin log (source - 1000000))
+
+-- the sources that count, and those from one on up to another, where they count from 0
+unfoldable pub inUse : Sources → List ℕ
+inUse s = take (s .count) (s .at)
+
+unfoldable pub recordsIn : List ℕ → List ℕ → Sources → (from to : ℕ) → List (List ℕ)
+recordsIn frozen log s from to = map (recordAt frozen log) (drop from (take to (inUse s)))
+
+-- a file's records: its leading pieces of 133 bytes that end in a line feed, at most so many; each without its line feed
+unfoldable pub leading : ℕ → List ℕ → List (List ℕ)
+leading zero f = []
+leading (suc n) f = cond (eqb (getD f 132 0) 10) (take 132 f ∷ leading n (drop 133 f)) []
+
+unfoldable pub records : List ℕ → List (List ℕ)
+records f = leading 480 f
+
+-- so many offsets, 133 apart
+unfoldable pub starts : ℕ → ℕ → List ℕ
+starts at zero = []
+starts at (suc n) = at ∷ starts (at + 133) n
+
+-- the sources of a file of n records; zeros past the count
+unfoldable pub sourcesTo : ℕ → Sources
+sourcesTo n = record { count = n; at = starts 0 n ++ replicate (480 - n) 0 }
+
+unfoldable pub sourcesOf : List ℕ → Sources
+sourcesOf f = sourcesTo (length (records f))

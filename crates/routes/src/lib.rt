@@ -1,0 +1,195 @@
+// Files and routes: records judged in sequence. A record is given by its source, the place of its 132 bytes in one of two slices, so a
+// file and a route of corrected records are judged by one walk. Assumes nothing of the caller: any slices, any sources.
+mod pairs;
+mod record;
+mod stages;
+
+ghost use mathlib.Core.Path.{_≡_};
+ghost use mathlib.Core.List.{[], _∷_};
+ghost use Prim.Native.Nat.{_≤_, min};
+ghost use lib.ListN.{length};
+ghost use Rattle.routes.specs.InTurn.{inTurn};
+ghost use Rattle.routes.specs.Sources.{recordAt, recordsIn, sourcesOf};
+ghost use Rattle.routes.specs.Stages.{seen, nothing};
+ghost use Rattle.routes.specs.Walk.{judgedNext, primaryAfter, walkFrom, finished, walked};
+ghost use Rattle.routes.specs.Files.{tailStage, fileVerdict};
+use columns::Kind;
+use refusals::Refusal;
+use refusals::Verdict;
+
+// Where the key of a route ends, and the head that a continuation shares with its primary; the column of the continuation number.
+const KEY: usize = 25;
+
+const HEAD: usize = 38;
+
+const NUMBER: usize = 39;
+
+// Where records lie, at most 480 of them; zeros past the count.
+pub struct Sources {
+    pub count: usize,
+    pub at: [u32; 480],
+}
+
+// The record of a source: below 1,000,000 the 132 bytes at that offset of the frozen file, else those at the rest of the log. Empty where
+// they do not lie wholly within.
+pub fn record_at<'a>(frozen: &'a [u8], log: &'a [u8], source: u32) -> &'a [u8]
+    ensures { λ r. ⌜ now r ≡ recordAt (now (frozen .entry)) (now (log .entry)) source ⌝ }
+{
+    if source < 1000000 {
+        record::within(frozen, source as usize)
+    } else {
+        record::within(log, (source - 1000000) as usize)
+    }
+}
+
+// The sources of a file's own records: the leading ones that end in a line feed.
+pub fn sources_of(file: &[u8]) -> Sources
+    ensures { λ r. ⌜ r ≡ sourcesOf (now (file .entry)) ⌝ }
+{
+    let mut found = Sources {
+        count: 0,
+        at: [0u32; 480],
+    };
+    let mut i: usize = 0;
+    while i < 480 {
+        if slices::byte_at(file, i * 133 + 132) != 10 {
+            return found;
+        }
+        found.at[i] = (i * 133) as u32;
+        i += 1;
+        found.count = i;
+    }
+    found
+}
+
+// Judges one record after the last primary and the record before it: 3, 4, 5 by itself, then 6, 7, 8.
+fn judge_next<'a>(primary: &'a [u8], before: &'a [u8], rec: &'a [u8], place: usize) -> Verdict
+    ensures { λ r. ⌜ r ≡ judgedNext (seen (now (primary .entry)) (now (before .entry))) place (now (rec .entry)) ⌝ }
+{
+    let alone = leg::judge(rec, place);
+    let kind = columns::kind_of(rec);
+    let continued = stages::continuation_stage(HEAD, NUMBER, kind, primary, before, rec, place);
+    let sequence = stages::sequence_stage(primary, rec, place);
+    let ordered = stages::order_stage(KEY, kind, primary, rec, place, sequence);
+    let flown = stages::leg_stage(KEY, kind, primary, rec, place);
+    in_turn(alone, in_turn(continued, in_turn(ordered, flown)))
+}
+
+// The first of two verdicts that refuses.
+fn in_turn(first: Verdict, next: Verdict) -> Verdict
+    ensures { λ r. ⌜ r ≡ inTurn (first ∷ next ∷ []) ⌝ }
+{
+    match first {
+        Verdict::Accepted => next,
+        Verdict::Refused(r) => Verdict::Refused(r),
+    }
+}
+
+// The last primary once this record was seen.
+fn primary_after<'a>(primary: &'a [u8], rec: &'a [u8]) -> &'a [u8]
+    ensures { λ r. ⌜ now r ≡ primaryAfter (now (primary .entry)) (now (rec .entry)) ⌝ }
+{
+    let kind = columns::kind_of(rec);
+    match kind {
+        Kind::Primary => rec,
+        Kind::Continuation => primary,
+    }
+}
+
+// The lesser of two numbers.
+fn least(a: usize, b: usize) -> usize
+    ensures { λ r. ⌜ r ≡ min a b ⌝ }
+{
+    if a < b { a } else { b }
+}
+
+// Judges the records of a range of sources in sequence, counted from 1; what follows the last of them is not looked at.
+fn walk<'a>(frozen: &'a [u8], log: &'a [u8], sources: Sources, from: usize, to: usize) -> Verdict
+    ensures { λ r. ⌜ r ≡ walkFrom nothing 1 (recordsIn (now (frozen .entry)) (now (log .entry)) sources from to) ⌝ }
+{
+    let count = sources.count;
+    let end = least(to, least(count, 480));
+    let mut primary = &frozen[0..0];
+    let mut before = &frozen[0..0];
+    let mut i = from;
+    while i < end {
+        let source = sources.at[i];
+        let rec = record_at(frozen, log, source);
+        let verdict = judge_next(primary, before, rec, i - from + 1);
+        match verdict {
+            Verdict::Accepted => {}
+            Verdict::Refused(r) => {
+                return Verdict::Refused(r);
+            }
+        }
+        let last = primary_after(primary, rec);
+        primary = last;
+        before = rec;
+        i += 1;
+    }
+    Verdict::Accepted
+}
+
+// Whether a continuation is missing past the last record of a range of sources.
+fn finish<'a>(frozen: &'a [u8], log: &'a [u8], sources: Sources, from: usize, to: usize) -> Verdict
+    ensures { λ r. ⌜ r ≡ finished (recordsIn (now (frozen .entry)) (now (log .entry)) sources from to) ⌝ }
+{
+    let count = sources.count;
+    let end = least(to, least(count, 480));
+    if end <= from {
+        return Verdict::Accepted;
+    }
+    let source = sources.at[end - 1];
+    let rec = record_at(frozen, log, source);
+    if stages::awaits(NUMBER, rec) {
+        return Verdict::Refused(Refusal::continuation_number(end - from + 1));
+    }
+    Verdict::Accepted
+}
+
+// Judges the records of a range of sources, a route of them for example, in sequence and counted from its start. The range counts from
+// 0, `to` is past its last, and what is past the sources that count is cut off.
+pub fn judge_range<'a>(
+    frozen: &'a [u8],
+    log: &'a [u8],
+    sources: Sources,
+    from: usize,
+    to: usize,
+) -> Verdict
+    ensures { λ r. ⌜ r ≡ walked (recordsIn (now (frozen .entry)) (now (log .entry)) sources from to) ⌝ }
+{
+    let judged = walk(frozen, log, sources, from, to);
+    let finished = finish(frozen, log, sources, from, to);
+    in_turn(judged, finished)
+}
+
+// What stands behind the n leading records of a file, each of 133 bytes: nothing, or a record that is cut short.
+fn judge_tail(file: &[u8], n: usize) -> Verdict
+    requires { ⌜ n ≤ 480 ⌝ }
+    ensures { λ r. ⌜ r ≡ tailStage (length (now (file .entry))) n ⌝ }
+{
+    let whole = n * 133;
+    if file.len() <= whole {
+        return Verdict::Accepted;
+    }
+    let tail = file.len() - whole;
+    if tail < 133 {
+        return Verdict::Refused(Refusal::cut_short(n + 1, tail + 1));
+    }
+    Verdict::Refused(Refusal::cut_short(n + 1, 133))
+}
+
+// Judges a file: 2 for its size; then record by record 1, 3, 4, 5, 6, 7, 8; a continuation that is missing past the last record.
+pub fn check(file: &[u8]) -> Verdict
+    ensures { λ r. ⌜ r ≡ fileVerdict (now (file .entry)) ⌝ }
+{
+    if 63840 < file.len() {
+        return Verdict::Refused(Refusal::too_many_records());
+    }
+    let sources = sources_of(file);
+    let count = sources.count;
+    let judged = walk(file, file, sources, 0, count);
+    let tail = judge_tail(file, count);
+    let finished = finish(file, file, sources, 0, count);
+    in_turn(judged, in_turn(tail, finished))
+}
