@@ -4,3 +4,4 @@ pub mod SourceLaws
 pub mod PairLaws
 pub mod FileLaws
 mod Turns
+mod Vectors

@@ -1,0 +1,102 @@
+-- Worked vectors, by evaluation: files of a few records, perhaps with a tail, and what judging them gives: the number, the place and the
+-- column of the refusal, 0, 0 and 0 where they are accepted. Those that paper 01 stars are marked.
+-- Assumes nothing.
+use mathlib.Core.Path.{_≡_, refl}
+use mathlib.Core.Bool.{Bool, true, _&&_}
+use mathlib.Core.List.{List, [], _∷_, _++_}
+use Prim.Native.Nat.{ℕ}
+use Prim.Native.String.{String}
+use lib.Dec.{eqb}
+use lib.ListN.{take}
+use Rattle.slices.specs.Part.{part, blank, member}
+use Rattle.slices.specs.Order.{order, equal}
+use Rattle.slices.specs.Search.{firstAt}
+use Rattle.columns.specs.ByteSets.{fits}
+use Rattle.columns.specs.Patterns.{codes, texts, fitsAll}
+use Rattle.columns.specs.Rows.{stands, matches, firstOf}
+use Rattle.columns.specs.Layout.{primary, continuation}
+use Rattle.columns.specs.Terminators.{terminators}
+use Rattle.columns.specs.Kinds.{kindOf, layoutOf, firstBadField}
+use Rattle.columns.proofs.Vectors.{_at_is_, approach, notes}
+use Rattle.refusals.specs.Table.{refusal, stated}
+use Rattle.refusals.specs.declared.Refusal.{Refusal}
+use Rattle.leg.specs.Terminator.{inOrder, terminatorAt, terminatorOf, numberOf, nameOf, needs, needed, among, endsAtFix}
+use Rattle.leg.specs.Stages.{oddOne, missing, companionColumn, neededOf, neededColumn}
+use Rattle.leg.specs.Judge.{stage, judgedLeg, judged}
+use Rattle.routes.specs.InTurn.{inTurn}
+use Rattle.routes.specs.Sources.{leading, records}
+use Rattle.routes.specs.Pairs.{onlyFirst, neverFirst, followsFix, firstLeg, pair}
+use Rattle.routes.specs.Stages.{numberAfter, firstDifference, awaits, continuationColumn, continuationStage, sequenceStage, orderStage, legStands, legStage}
+use Rattle.routes.specs.Walk.{judgedNext, primaryAfter, last, walkFrom, finished}
+use Rattle.routes.specs.Files.{sizeStage, tailColumn, tailStage, fileVerdict}
+
+record Vector : Type 0 where
+  file : List ℕ
+  answer : Refusal
+
+-- one more record, with its line feed, in front of the rest of a file
+infixr 76 _then_
+_then_ : List ℕ → List ℕ → List ℕ
+rec then rest = rec ++ 10 ∷ rest
+
+abbrev end : List ℕ
+end = []
+
+infix 75 _gives_at_column_
+_gives_at_column_ : List ℕ → ℕ → ℕ → ℕ → Vector
+f gives n at p column c = record { file = f; answer = refusal n p c }
+
+same : Refusal → Refusal → Bool
+same r s = eqb (r .number) (s .number) && (eqb (r .place) (s .place) && eqb (r .column) (s .column))
+
+right : List Vector → Bool
+right [] = true
+right (v ∷ vs) = same (stated (fileVerdict (v .file))) (v .answer) && right vs
+
+-- a legal leg of a sequence number and a terminator; it has every field that these need
+leg : String → String → List ℕ
+leg sequence terminator = approach at 27 is sequence at 48 is terminator
+
+-- the same with continuations to come, and a continuation of it
+continued : List ℕ
+continued = approach at 39 is "1"
+
+vectors : List Vector
+vectors =
+    end gives 0 at 0 column 0 ∷
+    leg "010" "IF" then leg "020" "TF" then end gives 0 at 0 column 0 ∷  -- starred
+    leg "010" "CA" then leg "020" "TF" then end gives 8 at 2 column 48 ∷  -- starred
+    leg "010" "TF" then end gives 8 at 1 column 48 ∷  -- starred
+    (leg "010" "CA") at 85 is "     " then end gives 5 at 1 column 85 ∷  -- starred
+    leg "010" "IF" then leg "020" "IF" then end gives 8 at 2 column 48 ∷  -- 8
+    leg "010" "IF" then (leg "010" "TF") at 21 is "SEA  " then end gives 8 at 2 column 48 ∷
+    leg "010" "HM" at 44 is "L" then leg "020" "FM" then leg "030" "FM" then end gives 8 at 3 column 48 ∷
+    take 131 approach gives 1 at 1 column 132 ∷  -- 1
+    approach gives 1 at 1 column 133 ∷
+    (approach ++ approach) gives 1 at 1 column 133 ∷
+    approach then codes "S" gives 1 at 2 column 2 ∷
+    continued then codes "S" gives 1 at 2 column 2 ∷
+    approach then approach at 27 is "020" at 63 is "3601" then end gives 3 at 2 column 63 ∷  -- 3, 4
+    approach at 35 is "  " then approach at 63 is "3601" then end gives 4 at 1 column 35 ∷
+    approach at 63 is "3601" then approach at 35 is "  " then end gives 3 at 1 column 63 ∷
+    notes then end gives 6 at 1 column 39 ∷  -- 6
+    continued then notes then end gives 0 at 0 column 0 ∷
+    continued then notes then notes at 39 is "3" then leg "020" "CF" then end gives 0 at 0 column 0 ∷
+    continued then notes at 39 is "3" then end gives 6 at 2 column 39 ∷
+    continued then notes then notes then end gives 6 at 3 column 39 ∷
+    continued then notes at 30 is "OTHER" then end gives 6 at 2 column 30 ∷
+    continued then notes at 1 is "T" at 39 is "A" then end gives 6 at 2 column 39 ∷
+    approach then notes then end gives 6 at 2 column 39 ∷
+    continued then leg "020" "CF" then end gives 6 at 2 column 39 ∷
+    continued then leg "005" "CF" then end gives 6 at 2 column 39 ∷
+    continued then end gives 6 at 2 column 39 ∷
+    approach then approach then end gives 7 at 2 column 27 ∷  -- 7
+    approach then leg "009" "CF" then end gives 7 at 2 column 27 ∷
+    approach then leg "009" "TF" at 1 is "T" then end gives 8 at 2 column 48 ∷
+    approach at 1 is "T" then approach then end gives 7 at 2 column 1 ∷
+    approach then approach at 1 is "T" then approach then end gives 7 at 3 column 1 ∷
+    []
+
+worked : right vectors ≡ true
+unfolding vectors right same leg continued _gives_at_column_ _then_ _at_is_ approach notes codes texts fileVerdict sizeStage tailStage tailColumn inTurn leading records walkFrom finished last judgedNext primaryAfter continuationStage continuationColumn numberAfter firstDifference awaits orderStage sequenceStage legStage legStands firstLeg pair onlyFirst neverFirst followsFix judged judgedLeg stage companionColumn oddOne neededColumn neededOf missing blank member terminatorOf terminatorAt inOrder numberOf nameOf among endsAtFix needed needs terminators firstAt equal order firstBadField layoutOf kindOf firstOf matches stands fitsAll fits part primary continuation
+worked = refl
