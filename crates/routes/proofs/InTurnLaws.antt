@@ -37,3 +37,18 @@ in-turn-cons (Refused r) vs = refl
 
 pub four-in-turn : (u v w x : Verdict) {y z r : Verdict} → y ≡ inTurn (w ∷ x ∷ []) → z ≡ inTurn (v ∷ y ∷ []) → r ≡ inTurn (u ∷ z ∷ []) → r ≡ inTurn (u ∷ v ∷ w ∷ x ∷ [])
 four-in-turn u v w x p q e = e ∙ rw (q, p, in-turn-cons v (w ∷ x ∷ [])) (in-turn-cons u (v ∷ w ∷ x ∷ []))
+
+pub accepts-iff : (v : Verdict) (vs : List Verdict) → (inTurn (v ∷ vs) ≡ Accepted) ↔ ((v ≡ Accepted) × (inTurn vs ≡ Accepted))
+unfolding inTurn
+accepts-iff Accepted vs = (λ e. (refl, e), λ e. e .1)
+accepts-iff (Refused r) vs = (λ e. (e, let z : _≡_ {A = ℕ} 0 1 = cc in absurd (omega arith)), λ e. e .0)
+
+pub four-accept : (u v w x : Verdict) → (inTurn (u ∷ v ∷ w ∷ x ∷ []) ≡ Accepted) ↔ ((u ≡ Accepted) × (v ≡ Accepted) × (w ≡ Accepted) × (x ≡ Accepted))
+four-accept u v w x = (
+  λ e.
+      let p = accepts-iff u (v ∷ w ∷ x ∷ []) .0 e in
+      let q = accepts-iff v (w ∷ x ∷ []) .0 (p .1) in
+      let s = accepts-iff w (x ∷ []) .0 (q .1) in
+      (p .0, q .0, s .0, sym (alone x) ∙ s .1),
+  λ (p, q, s, t). accepts-iff u (v ∷ w ∷ x ∷ []) .1 (p, accepts-iff v (w ∷ x ∷ []) .1 (q, accepts-iff w (x ∷ []) .1 (s, alone x ∙ t))),
+)

@@ -3,5 +3,8 @@ pub mod InTurnLaws
 pub mod SourceLaws
 pub mod PairLaws
 pub mod FileLaws
+pub mod Steps
+pub mod PlaceLaws
+pub mod Routes
 mod Turns
 mod Vectors

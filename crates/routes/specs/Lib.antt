@@ -5,3 +5,4 @@ pub mod Pairs
 pub mod Stages
 pub mod Walk
 pub mod Files
+pub mod Places
