@@ -6,5 +6,7 @@ pub mod FileLaws
 pub mod Steps
 pub mod PlaceLaws
 pub mod Routes
+pub mod Lines
+pub mod Legality
 mod Turns
 mod Vectors

@@ -2,7 +2,7 @@
 -- themselves, are accepted. This is what lets corrections of one route be judged without the others.
 -- Assumes nothing.
 use mathlib.Core.Path.{_≡_, refl, sym, ap, subst, _∙_}
-use mathlib.Core.Logic.{_↔_, _⊎_, inl, inr, ⊎-elim}
+use mathlib.Core.Logic.{_↔_, _⊎_, inl, inr, ⊎-elim, Iff·rfl}
 use mathlib.Core.Bool.{Bool, true, false, cond, false≢true}
 use mathlib.Core.List.{List, [], _∷_, map}
 use Prim.Native.Nat.{ℕ}
@@ -20,7 +20,7 @@ use Rattle.routes.specs.Stages.{Seen, seen, nothing, numberAfter, awaits
 use Rattle.routes.specs.Walk.{primaryAfter, seenWith, walked}
 use Rattle.routes.specs.Places.{keyOf, placeOf, Before, Every, Rising, ofRoute}
 use Rattle.routes.proofs.Steps.{Next, begins, follows, continues, Rest, done, more, walked-iff}
-use Rattle.routes.proofs.PlaceLaws.{head-key, nothing-before, not-nothing, continuation-number, place-key, next-rises, rising-cons, of-route-in, of-route-out, none-behind}
+use Rattle.routes.proofs.PlaceLaws.{head-key, nothing-before, not-nothing, continuation-number, place-key, key-place, next-rises, rising-cons, of-route-in, of-route-out, none-behind}
 
 -- ---- what was seen
 
@@ -29,11 +29,11 @@ abbrev Together : Seen → Type 0
 Together s = columns 1 38 (s .before) ≡ columns 1 38 (s .primary)
 
 module _ (p r : List ℕ) where
-  after-primary : kindOf r ≡ Primary → primaryAfter p r ≡ r
+  pub after-primary : kindOf r ≡ Primary → primaryAfter p r ≡ r
   unfolding primaryAfter
   after-primary k = rw k
 
-  after-continuation : kindOf r ≡ Continuation → primaryAfter p r ≡ p
+  pub after-continuation : kindOf r ≡ Continuation → primaryAfter p r ≡ p
   unfolding primaryAfter
   after-continuation k = rw k
 
@@ -69,17 +69,17 @@ module _ (k : List ℕ) (s : Seen) where
 same-or : {C : Type 0} (x y : List ℕ) → (x ≡ y → C) → ((x ≡ y → ⊥) → C) → C
 same-or x y f g = split (equal x y) (λ e. f (equal-iff x y .0 e)) (λ e. g (λ q. false≢true (sym e ∙ equal-iff x y .1 q)))
 
-rest-at : {s t : Seen} {rs : List (List ℕ)} → s ≡ t → Rest s rs → Rest t rs
+pub rest-at : {s t : Seen} {rs : List (List ℕ)} → s ≡ t → Rest s rs → Rest t rs
 rest-at {rs = rs} e r = subst (λ (u : Seen). Rest u rs) e r
 
-none-awaited : awaits 39 [] ≡ false
+pub none-awaited : awaits 39 [] ≡ false
 unfolding awaits
 none-awaited = refl
 
 none-seen : Rest nothing []
 none-seen = done none-awaited
 
-after-none : numberAfter 0 ≡ 0
+pub after-none : numberAfter 0 ≡ 0
 unfolding numberAfter
 after-none = refl
 
@@ -185,3 +185,48 @@ gives : (rs : List (List ℕ)) → Together-gives rs
 unfolding ofRoute
 gives [] s t u h = rest-at (narrow-in (keyOf (s .primary)) s refl) (h (keyOf (s .primary)))
 gives (r ∷ rs) s t u h = gives-cons r rs (λ s′. gives rs s′) s t u h
+
+-- ---- the whole list
+
+narrow-nothing : (k : List ℕ) → narrow k nothing ≡ nothing
+narrow-nothing k = same-or k (keyOf []) (λ e. narrow-in k nothing e) (λ e. narrow-out k nothing e)
+
+-- a list whose first record is legal rises from nothing
+rising-whole : (rs : List (List ℕ)) → Rising (map placeOf rs) → ((k : List ℕ) → Rest nothing (ofRoute k rs)) → Rising (placeOf [] ∷ map placeOf rs)
+rising-whole [] u h = (tt, tt)
+rising-whole (r ∷ rs) u h =
+    rising-cons (placeOf []) (placeOf r) (map placeOf rs)
+    (next-then (subst (λ (l : List (List ℕ)). Rest nothing l) (of-route-in (keyOf r) r rs refl) (h (keyOf r)))
+    λ n _. key-place [] r (nothing-before r (first-record r n .0)))
+    u
+
+-- records are accepted in sequence exactly when their places rise and, for every route, its own records are accepted by themselves
+pub by-routes : (rs : List (List ℕ)) → (walked rs ≡ Accepted) ↔ (Rising (map placeOf rs) × ((k : List ℕ) → walked (ofRoute k rs) ≡ Accepted))
+by-routes rs = (to, from)
+  where
+    to : walked rs ≡ Accepted → Rising (map placeOf rs) × ((k : List ℕ) → walked (ofRoute k rs) ≡ Accepted)
+    to e =
+        let i = apart {s = nothing} refl (walked-iff rs .0 e) in
+        (i .0 .1, λ k. walked-iff (ofRoute k rs) .1 (rest-at (narrow-nothing k) (i .1 k)))
+
+    from : Rising (map placeOf rs) × ((k : List ℕ) → walked (ofRoute k rs) ≡ Accepted) → walked rs ≡ Accepted
+    from (u, h) =
+        let alone : (k : List ℕ) → Rest nothing (ofRoute k rs) = λ k. walked-iff (ofRoute k rs) .0 (h k) in
+        walked-iff rs .1 (gives rs nothing refl (rising-whole rs u alone) (λ k. rest-at (sym (narrow-nothing k)) (alone k)))
+
+-- so the places of accepted records rise
+pub places-rise : (rs : List (List ℕ)) → walked rs ≡ Accepted → Rising (map placeOf rs)
+places-rise rs e = by-routes rs .0 e .0
+
+-- records of one route are that route, so they are accepted exactly when it is, alone
+pub one-route : (k : List ℕ) (rs : List (List ℕ)) → Every (λ r. k ≡ keyOf r) rs → ofRoute k rs ≡ rs
+unfolding ofRoute
+one-route k [] e = refl
+one-route k (r ∷ rs) e = of-route-in k r rs (e .0) ∙ ap (λ (l : List (List ℕ)). r ∷ l) (one-route k rs (e .1))
+
+pub one-route-iff : (k : List ℕ) (rs : List (List ℕ)) → Every (λ r. k ≡ keyOf r) rs → (walked rs ≡ Accepted) ↔ (walked (ofRoute k rs) ≡ Accepted)
+one-route-iff k rs e = rw (one-route k rs e) Iff·rfl
+
+-- a route without a record is accepted
+pub no-record : walked [] ≡ Accepted
+no-record = walked-iff [] .1 none-seen

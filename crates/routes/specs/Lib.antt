@@ -1,4 +1,4 @@
--- What the contracts of this crate cite.
+-- What the contracts of this crate cite, and what its theorems say in plain words.
 pub mod InTurn
 pub mod Sources
 pub mod Pairs
@@ -6,3 +6,4 @@ pub mod Stages
 pub mod Walk
 pub mod Files
 pub mod Places
+pub mod Legal

@@ -1,0 +1,80 @@
+-- A legal file, in words that name no judging function: lines of 132 bytes, which are the legs of its routes in order; every record legal
+-- by itself; the continuations, the order, the first legs and the pairs right.
+-- Assumes nothing.
+use Prim.Native.Nat.{ℕ, _≤_}
+use Prim.Native.Char.{code}
+use mathlib.Core.Path.{_≡_}
+use mathlib.Core.Bool.{true}
+use mathlib.Core.Logic.{_↔_}
+use mathlib.Core.List.{List, [], _∷_, _++_, map}
+use lib.ListN.{length, take}
+use Rattle.columns.specs.Patterns.{codes}
+use Rattle.columns.specs.Rows.{byteIn}
+use Rattle.columns.specs.Words.{columns, ContinuationContent}
+use Rattle.leg.specs.Legal.{LegalLeg}
+use Rattle.routes.specs.Pairs.{terminatorIn, firstLeg, pair}
+use Rattle.routes.specs.Places.{keyOf, sequenceOf, Every, Rising}
+
+-- a leg is a primary record and its continuations; a route has one leg or more
+pub record Leg : Type 0 where
+  pub primary : List ℕ
+  pub continuations : List (List ℕ)
+
+pub record Route : Type 0 where
+  pub first : Leg
+  pub others : List Leg
+
+-- their records, in order
+abbrev pub recordsOfLegs : List Leg → List (List ℕ)
+recordsOfLegs [] = []
+recordsOfLegs (l ∷ ls) = (l .primary ∷ l .continuations) ++ recordsOfLegs ls
+
+abbrev pub recordsOfRoutes : List Route → List (List ℕ)
+recordsOfRoutes [] = []
+recordsOfRoutes (r ∷ rs) = recordsOfLegs (r .first ∷ r .others) ++ recordsOfRoutes rs
+
+-- "Primary 0 has no continuation; primary 1 has 2, then 3 and so on without a gap, each with columns 1-38 of its primary."
+unfoldable pub numbers : List ℕ
+numbers = codes "23456789ABCDEFGHIJKLMNOPQRSTUVWXYZ"
+
+pub record RightLeg (l : Leg) : Type 0 where
+  pub legal : LegalLeg (l .primary)
+  pub content : Every ContinuationContent (l .continuations)
+  pub heads : Every (λ c. columns 1 38 (l .primary) ≡ columns 1 38 c) (l .continuations)
+  pub numbered : map (byteIn 39) (l .continuations) ≡ take (length (l .continuations)) numbers
+  pub marked : (byteIn 39 (l .primary) ≡ code "1") ↔ (1 ≤ length (l .continuations))
+
+-- of each two neighbours
+abbrev pub Neighbours : {A : Type 0} → (A → A → Type 0) → List A → Type 0
+Neighbours P [] = Unit {0}
+Neighbours P (x ∷ []) = Unit {0}
+Neighbours P (x ∷ y ∷ ys) = P x y × Neighbours P (y ∷ ys)
+
+-- the second leg may follow the first
+abbrev pub Follows : Leg → Leg → Type 0
+Follows l m = pair (terminatorIn (l .primary)) (terminatorIn (m .primary)) ≡ true
+
+-- "A route is the records with equal columns 1-25. Within one, the primaries' sequence numbers rise."
+pub record RightRoute (r : Route) : Type 0 where
+  pub legs : Every RightLeg (r .first ∷ r .others)
+  pub together : Every (λ l. keyOf (r .first .primary) ≡ keyOf (l .primary)) (r .others)
+  pub rising : Rising (map (λ l. sequenceOf (l .primary)) (r .first ∷ r .others))
+  pub begins : firstLeg (r .first .primary) ≡ true
+  pub pairs : Neighbours Follows (r .first ∷ r .others)
+
+-- "Routes stand in rising byte order, and each once."
+pub record RightRoutes (rs : List Route) : Type 0 where
+  pub each : Every RightRoute rs
+  pub rising : Rising (map (λ r. keyOf (r .first .primary)) rs)
+
+-- "records of 132 bytes, each followed by a line feed"
+unfoldable pub lines : List (List ℕ) → List ℕ
+lines [] = []
+lines (r ∷ rs) = r ++ 10 ∷ lines rs
+
+pub record LegalFile (f : List ℕ) : Type 0 where
+  pub routes : List Route
+  pub bytes : f ≡ lines (recordsOfRoutes routes)
+  pub wide : Every (λ r. length r ≡ 132) (recordsOfRoutes routes)
+  pub atMost : length (recordsOfRoutes routes) ≤ 480
+  pub right : RightRoutes routes
