@@ -2,16 +2,17 @@
 -- Assumes nothing.
 use mathlib.Core.Path.{_≡_, refl, sym, ap, ap₂, subst, _∙_}
 use mathlib.Core.Logic.{_↔_, _⊎_, inl, inr, ⊎-elim, Iff·trans}
-use mathlib.Core.Bool.{Bool, true, false, cond}
+use mathlib.Core.Bool.{Bool, true, false, cond, _&&_, false≢true}
 use mathlib.Core.List.{List, [], _∷_, _++_, map, append-assoc, List·Memᴰ·cases-cons, List·Memᴰ·eq-of-singleton}
 use Prim.Native.Nat.{ℕ, zero, suc, _+_, _≤_, _<_}
 use Prim.Native.Char.{code}
 use native.Mathlib.Omega.{arith}
 use lib.Dec.{eqb}
 use lib.ListN.{length, take}
-use borrow.Author.Tests.{eq-eqb, ne-eqb, eqb-false}
+use borrow.Author.Tests.{eqb-true, eqb-false, eq-eqb, ne-eqb}
 use Rattle.slices.specs.Part.{part}
 use Rattle.slices.specs.Order.{order}
+use Rattle.slices.proofs.Cases.{and-left, and-right}
 use Rattle.slices.proofs.OrderLaws.{irreflexive}
 use Rattle.columns.specs.ByteSets.{fits}
 use Rattle.columns.specs.Patterns.{codes, each}
@@ -166,3 +167,207 @@ routes-then k p (r ∷ rs) (w, h, u, x, y) e b a =
     (leg-then (seen p b) (r .first) (recordsOfLegs (r .others) ++ recordsOfRoutes rs) w
     (λ o. begins (inl (w .0)) o a (subst (λ (z : List ℕ). Before z (keyOf (r .first .primary))) e h) u)
     (legs-then (r .first .primary) (r .others) (recordsOfRoutes rs) x (λ m d. routes-then (keyOf (r .first .primary)) m rs y d)))
+
+-- ---- the numbers of a leg's continuations
+
+-- each number of the list comes after the one before it, and none comes after the last
+run : ℕ → List ℕ → Bool
+run b [] = eqb (numberAfter b) 0
+run b (n ∷ ns) = eqb (numberAfter b) n && run n ns
+
+numbers-run : run 49 numbers ≡ true
+unfolding run numbers codes numberAfter
+numbers-run = refl
+
+abbrev Run : ℕ → List ℕ → Type 0
+Run b ns = run b ns ≡ true
+
+run-end : (b : ℕ) → Run b [] → numberAfter b ≡ 0
+unfolding run
+run-end b u = eqb-true (numberAfter b) 0 u
+
+run-next : (b n : ℕ) (ns : List ℕ) → Run b (n ∷ ns) → (numberAfter b ≡ n) × Run n ns
+unfolding run
+run-next b n ns u = (eqb-true (numberAfter b) n (and-left (eqb (numberAfter b) n) (run n ns) u), and-right (eqb (numberAfter b) n) (run n ns) u)
+
+number-of : (c : List ℕ) → ContinuationContent c → byteIn 39 c ≡ 0 → ⊥
+number-of c k = continuation-number c (continuation-kind c k)
+
+one-primary : (c : List ℕ) → kindOf c ≡ Continuation → byteIn 39 c ≡ 49 → ⊥
+unfolding kindOf fits
+one-primary c k e = two-kinds (rw e at k)
+
+-- a continuation is no primary 1
+awaits-none : (c : List ℕ) → ContinuationContent c → awaits 39 c ≡ false
+unfolding awaits
+awaits-none c k = ne-eqb (byteIn 39 c) 49 (one-primary c (continuation-kind c k))
+
+run-to : (p b : List ℕ) (ns : List ℕ) (cs : List (List ℕ)) → Run (byteIn 39 b) ns → ContinuationsAfter p b cs
+    → Every ContinuationContent cs × Every (λ c. columns 1 38 p ≡ columns 1 38 c) cs × (map (byteIn 39) cs ≡ take (length cs) ns)
+run-to p b ns [] u x = (tt, tt, refl)
+run-to p b [] (c ∷ cs) u (k, n, h, x) = absurd (number-of c k (n ∙ run-end (byteIn 39 b) u))
+run-to p b (m ∷ ns) (c ∷ cs) u (k, n, h, x) =
+    let v = run-next (byteIn 39 b) m ns u in
+    let i = run-to p c ns cs (subst (λ (y : ℕ). Run y ns) (sym (n ∙ v .0)) (v .1)) x in
+    ((k, i .0), (h, i .1), ap₂ (λ (y : ℕ) (ys : List ℕ). y ∷ ys) (n ∙ v .0) (i .2))
+
+run-from : (p b : List ℕ) (ns : List ℕ) (cs : List (List ℕ)) → Run (byteIn 39 b) ns → Every ContinuationContent cs → Every (λ c. columns 1 38 p ≡ columns 1 38 c) cs
+    → map (byteIn 39) cs ≡ take (length cs) ns → (length cs ≡ 0 → awaits 39 b ≡ false) → ContinuationsAfter p b cs
+run-from p b ns [] u x y e a = a refl
+run-from p b [] (c ∷ cs) u x y e a = let z : _≡_ {A = ℕ} 0 1 = cc in absurd (omega arith)
+run-from p b (m ∷ ns) (c ∷ cs) u (k, x) (h, y) e a =
+    let v = run-next (byteIn 39 b) m ns u in
+    let n : byteIn 39 c ≡ m = cc in
+    let t : map (byteIn 39) cs ≡ take (length cs) ns = cc in
+    (k, n ∙ sym (v .0), h, run-from p c ns cs (subst (λ (z : ℕ). Run z ns) (sym n) (v .1)) x y t (λ _. awaits-none c k))
+
+-- ---- one leg
+
+-- 0 or 1 in column 39
+primary-number : (r : List ℕ) → Code "01" (columns 39 39 r) → (byteIn 39 r ≡ 48) ⊎ (byteIn 39 r ≡ 49)
+unfolding each part
+primary-number r m = ⊎-elim (λ e. inl (let h : byteIn 39 r ≡ 48 = cc in h)) (λ n. let e = List·Memᴰ·eq-of-singleton n in inr (let h : byteIn 39 r ≡ 49 = cc in h)) (List·Memᴰ·cases-cons m)
+
+after-zero : numberAfter 48 ≡ 0
+unfolding numberAfter
+after-zero = refl
+
+-- a primary whose first continuation is right is a primary 1
+first-continued : (p c : List ℕ) → LegalLeg p → ContinuationContent c → byteIn 39 c ≡ numberAfter (byteIn 39 p) → byteIn 39 p ≡ 49
+first-continued p c l k n =
+    ⊎-elim (λ e. absurd (number-of c k (n ∙ ap numberAfter e ∙ after-zero))) (λ e. e) (primary-number p (l .content .leg .continuation))
+
+module _ (p : List ℕ) where
+  one-awaits : byteIn 39 p ≡ 49 → awaits 39 p ≡ true
+  unfolding awaits
+  one-awaits e = eq-eqb (byteIn 39 p) 49 e
+
+  none-awaits : (byteIn 39 p ≡ 49 → ⊥) → awaits 39 p ≡ false
+  unfolding awaits
+  none-awaits e = ne-eqb (byteIn 39 p) 49 e
+
+leg-to : (p : List ℕ) (cs : List (List ℕ)) → LegalLeg p → ContinuationsAfter p p cs → RightLeg (leg p cs)
+leg-to p [] l x = record {
+  legal = l;
+  content = tt;
+  heads = tt;
+  numbered = refl;
+  marked = (λ e. absurd (false≢true (sym x ∙ one-awaits p e)), λ h. absurd (omega arith));
+}
+leg-to p (c ∷ cs) l x =
+    let one = first-continued p c l (x .0) (x .1) in
+    let i = run-to p p numbers (c ∷ cs) (subst (λ (y : ℕ). Run y numbers) (sym one) numbers-run) x in
+    record { legal = l; content = i .0; heads = i .1; numbered = i .2; marked = (λ e. omega arith, λ h. one) }
+
+leg-from : (p : List ℕ) (cs : List (List ℕ)) → RightLeg (leg p cs) → ContinuationsAfter p p cs
+leg-from p [] r = none-awaits p (λ e. let h : 1 ≤ 0 = r .marked .0 e in omega arith)
+leg-from p (c ∷ cs) r =
+    run-from p p numbers (c ∷ cs) (subst (λ (y : ℕ). Run y numbers) (sym (r .marked .1 (omega arith))) numbers-run) (r .content) (r .heads) (r .numbered) (λ e. absurd (omega arith))
+
+whole-iff : (l : Leg) → Whole l ↔ RightLeg l
+whole-iff l = (λ (w, x). leg-to (l .primary) (l .continuations) w x, λ r. (r .legal, leg-from (l .primary) (l .continuations) r))
+
+-- ---- one route
+
+every-same : (k m : List ℕ) (ls : List Leg) → k ≡ m → Every (λ l. m ≡ keyOf (l .primary)) ls → Every (λ l. k ≡ keyOf (l .primary)) ls
+every-same k m [] e x = tt
+every-same k m (l ∷ ls) e x = (e ∙ x .0, every-same k m ls e (x .1))
+
+-- the other legs of a route
+record Others (f : Leg) (ls : List Leg) : Type 0 where
+  legs : Every RightLeg ls
+  together : Every (λ l. keyOf (f .primary) ≡ keyOf (l .primary)) ls
+  rising : Rising (map (λ l. sequenceOf (l .primary)) (f ∷ ls))
+  pairs : Neighbours Follows (f ∷ ls)
+
+legs-to : (f : Leg) (ls : List Leg) → LegsAfter (f .primary) ls → Others f ls
+legs-to f [] x = record { legs = tt; together = tt; rising = (tt, tt); pairs = tt }
+legs-to f (l ∷ ls) (w, k, q, u, x) =
+    let i = legs-to l ls x in
+    record {
+      legs = (whole-iff l .0 w, i .legs);
+      together = (k, every-same (keyOf (f .primary)) (keyOf (l .primary)) ls k (i .together));
+      rising = rising-cons (sequenceOf (f .primary)) (sequenceOf (l .primary)) (map (λ m. sequenceOf (m .primary)) ls) q (i .rising);
+      pairs = (u, i .pairs);
+    }
+
+legs-from : (f : Leg) (ls : List Leg) → Others f ls → LegsAfter (f .primary) ls
+legs-from f [] o = tt
+legs-from f (l ∷ ls) o = (
+  whole-iff l .1 (o .legs .0),
+  o .together .0,
+  o .rising .0 .0,
+  o .pairs .0,
+  legs-from l ls (record {
+    legs = o .legs .1;
+    together = every-same (keyOf (l .primary)) (keyOf (f .primary)) ls (sym (o .together .0)) (o .together .1);
+    rising = o .rising .1;
+    pairs = o .pairs .1;
+  }),
+)
+
+route-to : (r : Route) → Whole (r .first) → firstLeg (r .first .primary) ≡ true → LegsAfter (r .first .primary) (r .others) → RightRoute r
+route-to r w u x =
+    let i = legs-to (r .first) (r .others) x in
+    record { legs = (whole-iff (r .first) .0 w, i .legs); together = i .together; rising = i .rising; begins = u; pairs = i .pairs }
+
+-- ---- routes
+
+routes-to : (k : List ℕ) (rs : List Route) → RoutesAfter k rs → Every RightRoute rs × Rising (k ∷ map (λ r. keyOf (r .first .primary)) rs)
+routes-to k [] x = (tt, (tt, tt))
+routes-to k (r ∷ rs) (w, h, u, x, y) =
+    let i = routes-to (keyOf (r .first .primary)) rs y in
+    ((route-to r w u x, i .0), rising-cons k (keyOf (r .first .primary)) (map (λ q. keyOf (q .first .primary)) rs) h (i .1))
+
+routes-from : (k : List ℕ) (rs : List Route) → Every RightRoute rs → Rising (k ∷ map (λ r. keyOf (r .first .primary)) rs) → RoutesAfter k rs
+routes-from k [] e u = tt
+routes-from k (r ∷ rs) (x, e) u = (
+  whole-iff (r .first) .1 (x .legs .0),
+  u .0 .0,
+  x .begins,
+  legs-from (r .first) (r .others) (record { legs = x .legs .1; together = x .together; rising = x .rising; pairs = x .pairs }),
+  routes-from (keyOf (r .first .primary)) rs e (u .1),
+)
+
+-- ---- the whole
+
+-- nothing continues or follows before the first route
+module _ (rs : List (List ℕ)) where
+  parts-whole : Parts [] [] rs → (routes : List Route) × (rs ≡ recordsOfRoutes routes) × RightRoutes routes
+  parts-whole x = by (x .continuations) (x .legs) (x .parts) (x .continued) (x .followed)
+    where
+      by : (cs : List (List ℕ)) (ls : List Leg) → rs ≡ cs ++ (recordsOfLegs ls ++ recordsOfRoutes (x .routes)) → ContinuationsAfter [] [] cs → LegsAfter [] ls
+          → (routes : List Route) × (rs ≡ recordsOfRoutes routes) × RightRoutes routes
+      by [] [] e c l = let i = routes-to (keyOf []) (x .routes) (x .later) in (x .routes, e, record { each = i .0; rising = i .1 .1 })
+      by [] (l ∷ ls) e c x = absurd (not-nothing (l .primary) (inl (x .0 .0)) (x .1))
+      by (c ∷ cs) ls e x l = absurd (number-of c (x .0) (x .1 ∙ after-none))
+
+whole-rises : (rs : List Route) → RightRoutes rs → Rising (keyOf [] ∷ map (λ r. keyOf (r .first .primary)) rs)
+whole-rises [] x = (tt, tt)
+whole-rises (r ∷ rs) x =
+    rising-cons (keyOf []) (keyOf (r .first .primary)) (map (λ q. keyOf (q .first .primary)) rs)
+    (nothing-before (r .first .primary) (inl (x .each .0 .legs .0 .legal))) (x .rising)
+
+-- records are accepted in sequence exactly when they are those of right routes that rise
+pub sequence-iff : (rs : List (List ℕ)) → (walked rs ≡ Accepted) ↔ ((routes : List Route) × (rs ≡ recordsOfRoutes routes) × RightRoutes routes)
+sequence-iff rs = (
+  λ e. parts-whole rs (to-parts (walked-iff rs .0 e)),
+  λ (routes, e, x).
+      walked-iff rs .1
+      (rw e (routes-then (keyOf []) [] routes (routes-from (keyOf []) routes (x .each) (whole-rises routes x)) refl [] none-awaited)),
+)
+
+-- a file is accepted exactly when it is legal
+pub accepted-iff : (f : List ℕ) → (fileVerdict f ≡ Accepted) ↔ LegalFile f
+accepted-iff f = (to, from)
+  where
+    to : fileVerdict f ≡ Accepted → LegalFile f
+    to e =
+        let i = file-iff f .0 e in
+        let j = sequence-iff (i .0) .0 (i .4) in
+        record { routes = j .0; bytes = i .1 ∙ ap lines (j .1); wide = rw (j .1) at (i .2); atMost = rw (j .1) at (i .3); right = j .2 }
+
+    from : LegalFile f → fileVerdict f ≡ Accepted
+    from l =
+        file-iff f .1
+        (recordsOfRoutes (l .routes), l .bytes, l .wide, l .atMost, sequence-iff (recordsOfRoutes (l .routes)) .1 (l .routes, refl, l .right))

@@ -8,5 +8,6 @@ pub mod PlaceLaws
 pub mod Routes
 pub mod Lines
 pub mod Legality
+pub mod FirstLaws
 mod Turns
 mod Vectors

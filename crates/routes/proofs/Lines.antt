@@ -3,7 +3,7 @@
 use mathlib.Core.Path.{_≡_, refl, sym, ap, ap₂, subst, _∙_}
 use mathlib.Core.Logic.{_↔_}
 use mathlib.Core.Bool.{Bool, true, false, cond}
-use mathlib.Core.List.{List, [], _∷_, _++_, append-nil, append-assoc}
+use mathlib.Core.List.{List, [], _∷_, _++_, map, append-nil, append-assoc}
 use Prim.Native.Nat.{ℕ, zero, suc, _+_, _-_, _*_, _≤_, _<_}
 use native.Mathlib.Omega.{arith}
 use lib.Dec.{eqb, leb, ltb}
@@ -21,11 +21,12 @@ use Rattle.routes.specs.Sources.{leading, records}
 use Rattle.routes.specs.Stages.{nothing}
 use Rattle.routes.specs.Walk.{walkFrom, finished, walked}
 use Rattle.routes.specs.Files.{sizeStage, tailColumn, tailStage, fileVerdict}
-use Rattle.routes.specs.Places.{Every}
+use Rattle.routes.specs.Places.{placeOf, Every, Rising}
 use Rattle.routes.specs.Legal.{lines}
 use Rattle.routes.proofs.InTurnLaws.{alone, accepts-iff, four-accept}
 use Rattle.routes.proofs.SourceLaws.{line-within, at-most}
 use Rattle.routes.proofs.FileLaws.{tail-none}
+use Rattle.routes.proofs.Routes.{places-rise}
 
 -- a record of 132 bytes
 abbrev Wide : List ℕ → Type 0
@@ -96,6 +97,17 @@ tail-iff bytes count = (
   λ h. sym (tail-none bytes count h),
 )
 
+-- the records of an accepted file are accepted in sequence
+pub accepted-records : (f : List ℕ) → fileVerdict f ≡ Accepted → walked (records f) ≡ Accepted
+unfolding fileVerdict walked
+accepted-records f e =
+    let w = four-accept (sizeStage f) (walkFrom nothing 1 (records f)) (tailStage (length f) (length (records f))) (finished (records f)) .0 e in
+    accepts-iff (walkFrom nothing 1 (records f)) (finished (records f) ∷ []) .1 (w .1, alone (finished (records f)) ∙ w .3)
+
+-- so their places rise
+pub file-places-rise : (f : List ℕ) → fileVerdict f ≡ Accepted → Rising (map placeOf (records f))
+file-places-rise f e = places-rise (records f) (accepted-records f e)
+
 -- a file is accepted exactly when it is the lines of at most 480 records of 132 bytes that are accepted in sequence
 pub file-iff : (f : List ℕ) → (fileVerdict f ≡ Accepted)
     ↔ ((rs : List (List ℕ)) × (f ≡ lines rs) × Every Wide rs × (length rs ≤ 480) × (walked rs ≡ Accepted))
@@ -110,7 +122,7 @@ file-iff f = (to, from)
           sym (rw (drop-of-length-le f ended, append-nil) at (leading-lines 480 f)),
           leading-wide 480 f,
           at-most 480 f,
-          accepts-iff (walkFrom nothing 1 (leading 480 f)) (finished (leading 480 f) ∷ []) .1 (w .1, alone (finished (leading 480 f)) ∙ w .3),
+          accepted-records f e,
         )
 
     from : (rs : List (List ℕ)) × (f ≡ lines rs) × Every Wide rs × (length rs ≤ 480) × (walked rs ≡ Accepted) → fileVerdict f ≡ Accepted

@@ -6,4 +6,5 @@ pub mod Stages
 pub mod Walk
 pub mod Files
 pub mod Places
+pub mod First
 pub mod Legal

@@ -15,14 +15,16 @@ use Rattle.routes.specs.InTurn.{inTurn}
 use Rattle.routes.specs.Stages.{Seen, seen, nothing, awaits, continuationStage, sequenceStage, orderStage, legStage}
 
 -- one record after those seen: 3, 4 and 5 by itself, then 6, 7 and 8
-unfoldable pub judgedNext : Seen → (place : ℕ) → List ℕ → Verdict
-judgedNext s place rec =
-    inTurn
-    (judged place rec ∷
+abbrev pub stagesAfter : Seen → (place : ℕ) → List ℕ → List Verdict
+stagesAfter s place rec =
+    judged place rec ∷
     continuationStage 38 39 (kindOf rec) s place rec ∷
     orderStage 25 (kindOf rec) (s .primary) place rec (sequenceStage (s .primary) place rec) ∷
     legStage 25 (kindOf rec) (s .primary) place rec ∷
-    [])
+    []
+
+unfoldable pub judgedNext : Seen → (place : ℕ) → List ℕ → Verdict
+judgedNext s place rec = inTurn (stagesAfter s place rec)
 
 -- what was seen once this record was
 abbrev pub lastOf : Kind → List ℕ → List ℕ → List ℕ
