@@ -1,18 +1,22 @@
--- Laws of the pair rules: the code's table holds, for each terminator, what the definitions say of it.
+-- Laws of the pair rules: the code's table holds, for each terminator, what the definitions say of it; and the definitions in words.
 -- Assumes nothing.
-use mathlib.Core.Path.{_≡_, refl}
-use mathlib.Core.Bool.{Bool, not, _&&_, _||_}
-use mathlib.Core.List.{List, [], _∷_}
+use mathlib.Core.Path.{_≡_, refl, sym, _∙_}
+use mathlib.Core.Logic.{_↔_, ⊎-elim, Iff·trans, Iff·and}
+use mathlib.Core.Bool.{Bool, true, false, not, _&&_, _||_, false≢true}
+use mathlib.Core.List.{List, [], _∷_, List·Memᴰ, List·Memᴰ·head, List·Memᴰ·tail, List·Memᴰ·cases-cons, List·Memᴰ·not-nil}
 use Prim.Native.Nat.{ℕ}
 use lib.Dec.{eqb}
 use lib.ListN.{getD}
 use Rattle.slices.specs.Order.{order, equal}
+use Rattle.slices.proofs.Cases.{split, both, and-left, and-right, either, or-left, or-right, or-iff}
+use Rattle.slices.proofs.OrderLaws.{equal-iff}
 use Rattle.columns.specs.Patterns.{codes, texts}
+use Rattle.columns.specs.Words.{OneOf}
 use Rattle.columns.specs.Terminators.{terminators}
-use Rattle.leg.specs.Terminator.{numberOf, nameOf, among}
+use Rattle.leg.specs.Terminator.{numberOf, nameOf, among, endsAtFix}
 use Rattle.leg.specs.declared.terminator.Terminator.{Terminator}
 use Rattle.leg.specs.declared.terminator.Terminator.the-variants.{Af, Ca, Cd, Cf, Ci, Cr, Df, Fa, Fc, Fd, Fm, Ha, Hf, Hm, If, Pi, Rf, Tf, Va, Vd, Vi, Vm, Vr}
-use Rattle.routes.specs.Pairs.{onlyFirst, neverFirst, followsFix}
+use Rattle.routes.specs.Pairs.{onlyFirst, neverFirst, followsFix, terminatorIn, firstLeg, pair}
 
 -- the code's table
 unfoldable pub rules : List ℕ
@@ -52,3 +56,40 @@ rule-of Vd = record { its-first = refl; its-only = refl; its-fix = refl }
 rule-of Vi = record { its-first = refl; its-only = refl; its-fix = refl }
 rule-of Vm = record { its-first = refl; its-only = refl; its-fix = refl }
 rule-of Vr = record { its-first = refl; its-only = refl; its-fix = refl }
+
+-- ---- the rules in words
+
+among-iff : (f : List ℕ) (ps : List (List ℕ)) → (among f ps ≡ true) ↔ List·Memᴰ f ps
+unfolding among
+among-iff f [] = (λ e. absurd (false≢true e), λ m. absurd (List·Memᴰ·not-nil m))
+among-iff f (p ∷ ps) =
+    Iff·trans (or-iff (equal f p) (among f ps) (equal-iff f p) (among-iff f ps))
+    (λ s. ⊎-elim (λ e. List·Memᴰ·head e) (λ m. List·Memᴰ·tail m) s, λ m. List·Memᴰ·cases-cons m)
+
+not-iff : {A : Type 0} (b : Bool) → (b ≡ true) ↔ A → (not b ≡ true) ↔ (A → ⊥)
+not-iff b h = split b (λ e. (λ n _. false≢true (rw e at n), λ n. absurd (n (h .0 e)))) (λ e. (λ _ a. false≢true (sym e ∙ h .1 a), λ _. rw e))
+
+and-iff : (a b : Bool) → ((a && b) ≡ true) ↔ ((a ≡ true) × (b ≡ true))
+and-iff a b = (λ e. (and-left a b e, and-right a b e), λ (p, q). both p q)
+
+if-then : {A B : Type 0} (a b : Bool) → (a ≡ true) ↔ A → (b ≡ true) ↔ B → ((a || not b) ≡ true) ↔ (B → A)
+if-then {A} {B} a b p q = (
+  λ e y. ⊎-elim (λ x. p .0 x) (λ n. absurd (not-iff b q .0 n y)) (either a (not b) e),
+  λ f. split b (λ e. or-left a (not b) (p .1 (f (q .0 e)))) (λ e. or-right a (not b) (rw e)),
+)
+
+-- a record may be the first leg of a route exactly when its terminator is neither TF nor RF
+pub first-leg-iff : (rec : List ℕ) → (firstLeg rec ≡ true) ↔ (OneOf ("TF" ∷ "RF" ∷ []) (nameOf (terminatorIn rec)) → ⊥)
+unfolding firstLeg neverFirst
+first-leg-iff rec = not-iff (neverFirst (terminatorIn rec)) (among-iff (nameOf (terminatorIn rec)) (texts ("TF" ∷ "RF" ∷ [])))
+
+-- u may follow t exactly when u is not IF and, if it is one of those that follow a fix, t is one of those that end at one
+pub pair-iff : (t u : Terminator) → (pair t u ≡ true)
+    ↔ ((OneOf ("IF" ∷ []) (nameOf u) → ⊥)
+    × (OneOf ("TF" ∷ "RF" ∷ "HA" ∷ "HF" ∷ "HM" ∷ "PI" ∷ "FA" ∷ "FC" ∷ "FD" ∷ "FM" ∷ []) (nameOf u)
+    → OneOf ("IF" ∷ "TF" ∷ "CF" ∷ "DF" ∷ "AF" ∷ "RF" ∷ "HA" ∷ "HF" ∷ "HM" ∷ []) (nameOf t)))
+unfolding pair onlyFirst followsFix endsAtFix
+pair-iff t u =
+    Iff·trans (and-iff (not (onlyFirst u)) (endsAtFix t || not (followsFix u)))
+    (Iff·and (not-iff (onlyFirst u) (among-iff (nameOf u) (texts ("IF" ∷ []))))
+    (if-then (endsAtFix t) (followsFix u) (among-iff (nameOf t) _) (among-iff (nameOf u) _)))
