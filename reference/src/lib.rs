@@ -7,8 +7,12 @@
 //! - `record`: from 133 bytes to parts, and back
 //! - `cases`: the stored set of records
 //! - `report`: what this program answers to that set
+//! - `file`: a whole file, and the stages that look at several records (1, 2, 6, 7, 8)
+//! - `files`: the stored set of files, and what this program answers to it
 
 pub mod cases;
+pub mod file;
+pub mod files;
 pub mod judge;
 pub mod layout;
 pub mod parts;

@@ -1,0 +1,63 @@
+//! The stored files are what the program makes, the instructions make the set,
+//! and the requirement's own cases that speak of files.
+
+use std::collections::HashSet;
+use std::fs;
+use std::path::Path;
+
+use reference::file::check;
+use reference::{cases, files, Refusal};
+
+fn leg(sequence: &str, terminator: &str) -> Vec<u8> {
+    let mut bytes = cases::LEG.as_bytes().to_vec();
+    bytes[26..29].copy_from_slice(sequence.as_bytes());
+    bytes[47..49].copy_from_slice(terminator.as_bytes());
+    bytes
+}
+
+fn refused(file: &[u8], number: u8, place: usize, column: usize) {
+    assert_eq!(check(file), Err(Refusal { number, place, column }));
+}
+
+#[test]
+fn the_stored_files_are_what_the_program_makes() {
+    for (name, made) in files::stored_files() {
+        let path = Path::new(env!("CARGO_MANIFEST_DIR")).join(name);
+        let stored = fs::read(path).unwrap_or_default();
+        assert!(stored == made, "{name} is not what the program makes: run `cargo run --offline`");
+    }
+}
+
+#[test]
+fn the_instructions_make_the_set() {
+    let [_, (_, instructions), _] = files::stored_files();
+    assert!(instructions.len() <= 65_000, "{} bytes", instructions.len());
+    assert!(files::made_by(&instructions) == files::all());
+}
+
+#[test]
+fn the_set_meets_every_refusal_and_acceptance() {
+    let numbers: HashSet<u8> = files::all().iter().map(|file| check(file).map_or_else(|r| r.number, |()| 0)).collect();
+    assert_eq!(numbers, (0..=8).collect());
+}
+
+#[test]
+fn legs_in_sequence() {
+    assert_eq!(check(b""), Ok(()));
+    assert_eq!(check(&[leg("010", "IF"), leg("020", "TF")].concat()), Ok(()));
+    refused(&[leg("010", "CA"), leg("020", "TF")].concat(), 8, 2, 48);
+    refused(&leg("010", "TF"), 8, 1, 48);
+}
+
+#[test]
+fn a_needed_altitude() {
+    let mut record = leg("010", "CA");
+    record[84..89].fill(b' ');
+    refused(&record, 5, 1, 85);
+}
+
+#[test]
+fn one_record_too_many() {
+    refused(&[b'S'; 63_841], 2, 481, 0);
+    refused(&[b'S'; 63_840], 1, 1, 133);
+}
