@@ -1,8 +1,7 @@
 -- A refusal names the first record that fails and, there, the first stage that does.
 -- Assumes nothing.
-use mathlib.Core.Path.{_≡_, refl, sym, ap, subst, _∙_}
+use mathlib.Core.Path.{_≡_, refl, sym, subst}
 use mathlib.Core.Logic.{_↔_}
-use mathlib.Core.Bool.{Bool, true, false, cond}
 use mathlib.Core.List.{List, [], _∷_}
 use Prim.Native.Nat.{ℕ, _+_, _≤_}
 use native.Mathlib.Omega.{arith}
@@ -28,15 +27,13 @@ use Rattle.routes.specs.Stages.{Seen, nothing, columnsTo, continuationCo
 use Rattle.routes.specs.Walk.{stagesAfter, judgedNext, seenWith, walkFrom, finished, walked}
 use Rattle.routes.specs.Files.{sizeStage, tailStage, fileVerdict}
 use Rattle.routes.specs.First.{AllAccept, none, also, First, here, there, FirstRecord, at, behind, Names, Naming}
+use Rattle.routes.proofs.InTurnLaws.{never}
 
 -- ---- verdicts in turn
 
-never : {r : Refusal} → Accepted ≡ Refused r → ⊥
-never e = let z : _≡_ {A = ℕ} 0 1 = cc in omega arith
-
 first-to : (r : Refusal) (vs : List Verdict) → inTurn vs ≡ Refused r → First r vs
 unfolding inTurn
-first-to r [] e = absurd (never e)
+first-to r [] e = absurd (never (sym e))
 first-to r (Accepted ∷ vs) e = there refl (first-to r vs e)
 first-to r (Refused q ∷ vs) e = here e
 
@@ -52,7 +49,7 @@ all-to : (vs : List Verdict) → inTurn vs ≡ Accepted → AllAccept vs
 unfolding inTurn
 all-to [] e = none
 all-to (Accepted ∷ vs) e = also refl (all-to vs e)
-all-to (Refused q ∷ vs) e = absurd (never (sym e))
+all-to (Refused q ∷ vs) e = absurd (never e)
 
 all-from : {vs : List Verdict} → AllAccept vs → inTurn vs ≡ Accepted
 unfolding inTurn
@@ -69,7 +66,7 @@ module _ {least most place : ℕ} where
   names-refused q n r e = let s : q ≡ r = cc in subst (Names least most place) s n
 
   names-accepted : Naming least most place Accepted
-  names-accepted r e = absurd (never e)
+  names-accepted r e = absurd (never (sym e))
 
   names-stage : (c : ℕ) (f : ℕ → Refusal) (next : Verdict) → Names least most place (f c) → Naming least most place next → Naming least most place (stage c f next)
   unfolding stage
@@ -131,7 +128,7 @@ stages-place s place rec r (there _ (there _ (there _ (here e)))) = leg-names pl
 
 walk-to : (r : Refusal) (s : Seen) (place : ℕ) (recs : List (List ℕ)) → walkFrom s place recs ≡ Refused r → FirstRecord r s place recs
 unfolding walkFrom judgedNext
-walk-to r s place [] e = absurd (never e)
+walk-to r s place [] e = absurd (never (sym e))
 walk-to r s place (rec ∷ recs) e = by (first-to r (judgedNext s place rec ∷ walkFrom (seenWith s rec) (place + 1) recs ∷ []) e) (λ q. walk-to r (seenWith s rec) (place + 1) recs q)
   where
     by : First r (judgedNext s place rec ∷ walkFrom (seenWith s rec) (place + 1) recs ∷ [])

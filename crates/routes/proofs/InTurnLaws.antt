@@ -1,6 +1,6 @@
 -- Laws of verdicts in turn.
 -- Assumes nothing.
-use mathlib.Core.Path.{_≡_, refl, sym, ap, _∙_}
+use mathlib.Core.Path.{_≡_, refl, sym, _∙_}
 use mathlib.Core.Logic.{_↔_}
 use mathlib.Core.List.{List, [], _∷_}
 use Prim.Native.Nat.{ℕ}
@@ -9,6 +9,10 @@ use Rattle.refusals.specs.declared.Refusal.{Refusal}
 use Rattle.refusals.specs.declared.Verdict.{Verdict}
 use Rattle.refusals.specs.declared.Verdict.the-variants.{Accepted, Refused}
 use Rattle.routes.specs.InTurn.{inTurn}
+
+-- a refusal is no acceptance
+pub never : {r : Refusal} → Refused r ≡ Accepted → ⊥
+never e = let z : _≡_ {A = ℕ} 0 1 = cc in omega arith
 
 -- one verdict by itself
 pub alone : (v : Verdict) → inTurn (v ∷ []) ≡ v
@@ -41,7 +45,7 @@ four-in-turn u v w x p q e = e ∙ rw (q, p, in-turn-cons v (w ∷ x ∷ [])) (i
 pub accepts-iff : (v : Verdict) (vs : List Verdict) → (inTurn (v ∷ vs) ≡ Accepted) ↔ ((v ≡ Accepted) × (inTurn vs ≡ Accepted))
 unfolding inTurn
 accepts-iff Accepted vs = (λ e. (refl, e), λ e. e .1)
-accepts-iff (Refused r) vs = (λ e. (e, let z : _≡_ {A = ℕ} 0 1 = cc in absurd (omega arith)), λ e. e .0)
+accepts-iff (Refused r) vs = (λ e. absurd (never e), λ e. e .0)
 
 pub four-accept : (u v w x : Verdict) → (inTurn (u ∷ v ∷ w ∷ x ∷ []) ≡ Accepted) ↔ ((u ≡ Accepted) × (v ≡ Accepted) × (w ≡ Accepted) × (x ≡ Accepted))
 four-accept u v w x = (

@@ -1,19 +1,16 @@
 -- A file is accepted exactly when it is legal.
 -- Assumes nothing.
 use mathlib.Core.Path.{_≡_, refl, sym, ap, ap₂, subst, _∙_}
-use mathlib.Core.Logic.{_↔_, _⊎_, inl, inr, ⊎-elim, Iff·trans}
-use mathlib.Core.Bool.{Bool, true, false, cond, _&&_, false≢true}
+use mathlib.Core.Logic.{_↔_, _⊎_, inl, inr, ⊎-elim}
+use mathlib.Core.Bool.{Bool, true, false, _&&_, false≢true}
 use mathlib.Core.List.{List, [], _∷_, _++_, map, append-assoc, List·Memᴰ·cases-cons, List·Memᴰ·eq-of-singleton}
-use Prim.Native.Nat.{ℕ, zero, suc, _+_, _≤_, _<_}
-use Prim.Native.Char.{code}
+use Prim.Native.Nat.{ℕ, _≤_}
 use native.Mathlib.Omega.{arith}
 use lib.Dec.{eqb}
 use lib.ListN.{length, take}
-use borrow.Author.Tests.{eqb-true, eqb-false, eq-eqb, ne-eqb}
+use borrow.Author.Tests.{eqb-true, eq-eqb, ne-eqb}
 use Rattle.slices.specs.Part.{part}
-use Rattle.slices.specs.Order.{order}
 use Rattle.slices.proofs.Cases.{and-left, and-right}
-use Rattle.slices.proofs.OrderLaws.{irreflexive}
 use Rattle.columns.specs.ByteSets.{fits}
 use Rattle.columns.specs.Patterns.{codes, each}
 use Rattle.columns.specs.Rows.{byteIn}
@@ -24,8 +21,8 @@ use Rattle.columns.proofs.Content.{primary-kind, continuation-kind}
 use Rattle.refusals.specs.declared.Verdict.the-variants.{Accepted}
 use Rattle.leg.specs.Legal.{Legal, LegalLeg}
 use Rattle.routes.specs.Pairs.{terminatorIn, firstLeg, pair}
-use Rattle.routes.specs.Stages.{Seen, seen, nothing, numberAfter, awaits}
-use Rattle.routes.specs.Walk.{primaryAfter, seenWith, walked}
+use Rattle.routes.specs.Stages.{Seen, seen, numberAfter, awaits}
+use Rattle.routes.specs.Walk.{walked}
 use Rattle.routes.specs.Files.{fileVerdict}
 use Rattle.routes.specs.Places.{keyOf, sequenceOf, Before, Every, Rising}
 use Rattle.routes.specs.Legal.{Leg, Route, recordsOfLegs, recordsOfRoutes, numbers, RightLeg, Neighbours, Follows, RightRoute, RightRoutes, lines, LegalFile}

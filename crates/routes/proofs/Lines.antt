@@ -1,36 +1,28 @@
 -- A file that is accepted is the lines of its records, and its records are accepted in sequence.
 -- Assumes nothing.
-use mathlib.Core.Path.{_≡_, refl, sym, ap, ap₂, subst, _∙_}
+use mathlib.Core.Path.{_≡_, refl, sym, ap, _∙_}
 use mathlib.Core.Logic.{_↔_}
-use mathlib.Core.Bool.{Bool, true, false, cond}
 use mathlib.Core.List.{List, [], _∷_, _++_, map, append-nil, append-assoc}
-use Prim.Native.Nat.{ℕ, zero, suc, _+_, _-_, _*_, _≤_, _<_}
+use Prim.Native.Nat.{ℕ, zero, suc, _+_, _-_, _*_, _≤_}
 use native.Mathlib.Omega.{arith}
 use lib.Dec.{eqb, leb, ltb}
-use lib.ListN.{length, getD, take, drop, take-append-drop, length-append, length-take, drop-of-length-le}
+use lib.ListN.{length, getD, take, drop, take-append-drop, length-append, drop-of-length-le}
 use lib.Seq.{drop-drop, drop-cons, take-at, getD-at, drop-append-add, length-take-le}
-use borrow.Author.Tests.{le-leb, leb-true, eqb-true, eqb-false}
+use borrow.Author.Tests.{le-leb, leb-true, eqb-true}
 use Rattle.slices.proofs.Cases.{split}
-use Rattle.refusals.specs.Table.{cutShort, tooManyRecords}
-use Rattle.refusals.specs.declared.Refusal.{Refusal}
-use Rattle.refusals.specs.declared.Verdict.{Verdict}
-use Rattle.refusals.specs.declared.Verdict.the-variants.{Accepted, Refused}
+use Rattle.refusals.specs.Table.{cutShort}
+use Rattle.refusals.specs.declared.Verdict.the-variants.{Accepted}
 use Rattle.leg.proofs.Legality.{stage-iff}
-use Rattle.routes.specs.InTurn.{inTurn}
 use Rattle.routes.specs.Sources.{leading, records}
 use Rattle.routes.specs.Stages.{nothing}
 use Rattle.routes.specs.Walk.{walkFrom, finished, walked}
 use Rattle.routes.specs.Files.{sizeStage, tailColumn, tailStage, fileVerdict}
 use Rattle.routes.specs.Places.{placeOf, Every, Rising}
-use Rattle.routes.specs.Legal.{lines}
-use Rattle.routes.proofs.InTurnLaws.{alone, accepts-iff, four-accept}
+use Rattle.routes.specs.Legal.{lines, Wide}
+use Rattle.routes.proofs.InTurnLaws.{never, alone, accepts-iff, four-accept}
 use Rattle.routes.proofs.SourceLaws.{line-within, at-most}
 use Rattle.routes.proofs.FileLaws.{tail-none}
 use Rattle.routes.proofs.Routes.{places-rise}
-
--- a record of 132 bytes
-abbrev Wide : List ℕ → Type 0
-Wide r = length r ≡ 132
 
 -- ---- the leading records of a file
 
@@ -74,9 +66,6 @@ lines-leading (suc n) (r ∷ rs) w h =
     (ap (λ (l : List (List ℕ)). r ∷ l) (lines-leading n rs (w .1) (omega arith)))
 
 -- ---- the file's own stages
-
-never : {r : Refusal} → Refused r ≡ Accepted → ⊥
-never e = let z : _≡_ {A = ℕ} 0 1 = cc in omega arith
 
 size-iff : (f : List ℕ) → (sizeStage f ≡ Accepted) ↔ (length f ≤ 63840)
 unfolding sizeStage

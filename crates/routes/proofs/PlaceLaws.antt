@@ -3,29 +3,28 @@
 -- Assumes nothing.
 use mathlib.Core.Path.{_≡_, refl, sym, ap, subst, _∙_}
 use mathlib.Core.Logic.{_⊎_, inl, inr, ⊎-elim}
-use mathlib.Core.Bool.{Bool, true, false, cond, _&&_, false≢true}
-use mathlib.Core.List.{List, [], _∷_, _++_, map, List·Memᴰ, List·Memᴰ·cases-cons, List·Memᴰ·eq-of-singleton}
-use Prim.Native.Nat.{ℕ, _+_, _≤_, _<_}
+use mathlib.Core.Bool.{_&&_}
+use mathlib.Core.List.{List, [], _∷_, map, List·Memᴰ·cases-cons, List·Memᴰ·eq-of-singleton}
+use Prim.Native.Nat.{ℕ, _≤_, _<_}
 use native.Mathlib.Omega.{arith}
 use lib.Dec.{eqb, leb}
-use lib.ListN.{length, take, drop, getD}
-use borrow.Author.Tests.{eqb-true, ne-eqb, leb-true}
+use lib.ListN.{take, drop, getD}
+use borrow.Author.Tests.{eqb-true}
 use Rattle.slices.specs.Part.{part}
 use Rattle.slices.specs.Order.{order, equal}
 use Rattle.slices.specs.declared.Ordering.{Ordering}
 use Rattle.slices.specs.declared.Ordering.the-variants.{Less, Equal, Greater}
-use Rattle.slices.proofs.Cases.{split, and-left, and-right}
+use Rattle.slices.proofs.Cases.{split}
 use Rattle.slices.proofs.PartLaws.{length-part}
 use Rattle.slices.proofs.OrderLaws.{order-less, order-equal, order-refl, order-append, after, equal-iff, irreflexive, transitive}
 use Rattle.columns.specs.ByteSets.{fits}
-use Rattle.columns.specs.Patterns.{each, codes}
+use Rattle.columns.specs.Patterns.{each}
 use Rattle.columns.specs.Rows.{byteIn}
 use Rattle.columns.specs.Words.{columns, Front, Code}
 use Rattle.columns.specs.Kinds.{kindOf}
-use Rattle.columns.specs.declared.Kind.{Kind}
 use Rattle.columns.specs.declared.Kind.the-variants.{Primary, Continuation}
 use Rattle.leg.specs.Legal.{Legal}
-use Rattle.routes.specs.Stages.{Seen, nothing, numberAfter}
+use Rattle.routes.specs.Stages.{Seen, numberAfter}
 use Rattle.routes.specs.Places.{keyOf, sequenceOf, placeOf, Before, Every, Rising, ofRoute}
 use Rattle.routes.proofs.Steps.{Next, begins, follows, continues}
 

@@ -2,14 +2,13 @@
 -- themselves, are accepted. This is what lets corrections of one route be judged without the others.
 -- Assumes nothing.
 use mathlib.Core.Path.{_≡_, refl, sym, ap, subst, _∙_}
-use mathlib.Core.Logic.{_↔_, _⊎_, inl, inr, ⊎-elim, Iff·rfl}
-use mathlib.Core.Bool.{Bool, true, false, cond, false≢true}
+use mathlib.Core.Logic.{_↔_, _⊎_, inl, inr, Iff·rfl}
+use mathlib.Core.Bool.{true, false, cond, false≢true}
 use mathlib.Core.List.{List, [], _∷_, map}
 use Prim.Native.Nat.{ℕ}
-use Rattle.slices.specs.Order.{order, equal}
+use Rattle.slices.specs.Order.{equal}
 use Rattle.slices.proofs.Cases.{split}
 use Rattle.slices.proofs.OrderLaws.{equal-iff, irreflexive}
-use Rattle.columns.specs.Rows.{byteIn}
 use Rattle.columns.specs.Words.{columns}
 use Rattle.columns.specs.Kinds.{kindOf}
 use Rattle.columns.specs.declared.Kind.the-variants.{Primary, Continuation}

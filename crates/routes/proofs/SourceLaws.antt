@@ -1,18 +1,16 @@
 -- Laws of sources: the two cases of where a record lies, and a file's own sources, which give its own records.
 -- Assumes nothing.
 use mathlib.Core.Path.{_≡_, refl, sym, ap, ap₂, _∙_}
-use mathlib.Core.Bool.{true, false}
-use mathlib.Core.List.{List, [], _∷_, _++_, map, append-assoc}
+use mathlib.Core.List.{List, [], _∷_, _++_, map}
 use Prim.Native.Nat.{ℕ, zero, suc, _+_, _-_, _*_, _≤_, _<_, min}
 use native.Mathlib.Omega.{arith}
 use native.Mathlib.Numerals.{add-one}
 use native.Mathlib.Decide.{decLt}
 use lib.Dec.{eqb}
-use lib.ListN.{length, getD, take, drop, set, replicate, length-take, length-drop, length-map, drop-of-length-le, List·getD-eq-default, List·getD-map}
-use lib.Seq.{set-at, append-snoc, take-at, getD-drop, getD-take, drop-drop, drop-cons, take-all, length-take-le}
+use lib.ListN.{length, getD, take, drop, set, replicate, length-take, length-drop, length-map, drop-of-length-le, List·getD-eq-default}
+use lib.Seq.{set-at, append-snoc, take-at, getD-drop, getD-take, drop-drop, drop-cons, take-all}
 use borrow.Author.Tests.{le-leb, lt-leb, lt-ltb, le-ltb, eq-eqb, ne-eqb, eqb-true}
 use Rattle.slices.proofs.Cases.{split}
-use Rattle.slices.proofs.PartLaws.{one-less}
 use Rattle.routes.specs.Sources.{recordWithin, recordAt, inUse, recordsIn, leading, records, starts, sourcesTo, sourcesOf}
 use Rattle.routes.specs.Walk.{last}
 use Rattle.routes.specs.declared.Sources.{Sources}

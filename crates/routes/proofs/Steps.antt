@@ -1,16 +1,14 @@
 -- A walk that accepts, record by record: the three ways in which a record may come next, and that the walk accepts exactly those.
 -- Assumes nothing.
-use mathlib.Core.Path.{_≡_, refl, sym, ap, subst, _∙_}
-use mathlib.Core.Logic.{_↔_, _⊎_, inl, inr, Iff·trans, Iff·symm}
-use mathlib.Core.Bool.{Bool, true, false, cond, false≢true}
+use mathlib.Core.Path.{_≡_, refl, sym, ap, _∙_}
+use mathlib.Core.Logic.{_↔_, Iff·trans}
+use mathlib.Core.Bool.{Bool, true, false, cond}
 use mathlib.Core.List.{List, [], _∷_}
-use Prim.Native.Nat.{ℕ, _+_, _≤_, _<_}
-use Prim.Native.Char.{code}
+use Prim.Native.Nat.{ℕ, _+_, _≤_}
 use native.Mathlib.Omega.{arith}
 use lib.Dec.{eqb}
 use lib.ListN.{length}
-use borrow.Author.Tests.{eqb-true, eqb-false, eq-eqb, ne-eqb}
-use Rattle.slices.specs.Part.{part}
+use borrow.Author.Tests.{eqb-true, eqb-false, eq-eqb}
 use Rattle.slices.specs.Order.{order, equal}
 use Rattle.slices.specs.declared.Ordering.{Ordering}
 use Rattle.slices.specs.declared.Ordering.the-variants.{Less, Equal, Greater}
@@ -23,26 +21,16 @@ use Rattle.columns.specs.Kinds.{kindOf}
 use Rattle.columns.specs.declared.Kind.{Kind}
 use Rattle.columns.specs.declared.Kind.the-variants.{Primary, Continuation}
 use Rattle.refusals.specs.Table.{continuationHead, routeNotLater, sequenceNotRisen, legPair, continuationNumber}
-use Rattle.refusals.specs.declared.Refusal.{Refusal}
-use Rattle.refusals.specs.declared.Verdict.{Verdict}
 use Rattle.refusals.specs.declared.Verdict.the-variants.{Accepted, Refused}
 use Rattle.leg.specs.Judge.{stage, judged}
 use Rattle.leg.specs.Legal.{Legal}
 use Rattle.leg.proofs.Legality.{accepted-iff, stage-iff}
 use Rattle.routes.specs.InTurn.{inTurn}
 use Rattle.routes.specs.Pairs.{terminatorIn, firstLeg, pair}
-use Rattle.routes.specs.Stages.{Seen, seen, nothing, numberAfter, firstDifference, awaits, continuationColumn, continuationStage, byOrder, sequenceStage, orderStage, legStands, legStage}
-use Rattle.routes.specs.Walk.{judgedNext, primaryAfter, seenWith, last, walkFrom, finished, walked}
+use Rattle.routes.specs.Stages.{Seen, nothing, numberAfter, firstDifference, awaits, continuationColumn, continuationStage, byOrder, sequenceStage, orderStage, legStands, legStage}
+use Rattle.routes.specs.Walk.{judgedNext, seenWith, last, walkFrom, finished, walked}
 use Rattle.routes.specs.Places.{keyOf, sequenceOf, Before}
-use Rattle.routes.proofs.InTurnLaws.{alone, accepts-iff, four-accept}
-
--- ---- verdicts
-
-never : {r : Refusal} → Refused r ≡ Accepted → ⊥
-never e = let z : _≡_ {A = ℕ} 0 1 = cc in omega arith
-
-no-level : Equal ≡ Less → ⊥
-no-level e = let z : _≡_ {A = ℕ} 0 1 = cc in omega arith
+use Rattle.routes.proofs.InTurnLaws.{never, alone, accepts-iff, four-accept}
 
 -- ---- the stages, one by one
 

@@ -72,9 +72,12 @@ unfoldable pub lines : List (List ℕ) → List ℕ
 lines [] = []
 lines (r ∷ rs) = r ++ 10 ∷ lines rs
 
+abbrev pub Wide : List ℕ → Type 0
+Wide r = length r ≡ 132
+
 pub record LegalFile (f : List ℕ) : Type 0 where
   pub routes : List Route
   pub bytes : f ≡ lines (recordsOfRoutes routes)
-  pub wide : Every (λ r. length r ≡ 132) (recordsOfRoutes routes)
+  pub wide : Every Wide (recordsOfRoutes routes)
   pub atMost : length (recordsOfRoutes routes) ≤ 480
   pub right : RightRoutes routes

@@ -1,7 +1,6 @@
 -- The file's own sources give its own records; then stage by stage. Assumes nothing.
 use Rattle.routes.proofs.SourceLaws.{own-count}
 use Rattle.routes.proofs.FileLaws.{too-long, not-too-long, own-walk, own-tail, own-finish}
-use native.Mathlib.Omega.{arith}
 use borrow.Author.Needs.{needs}
 use Rattle.routes.proofs.check.Statement.{statement}
 use Rattle.routes.proofs.check.Tie as tie

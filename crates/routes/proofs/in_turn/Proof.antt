@@ -1,6 +1,5 @@
 -- By the first verdict. Assumes nothing.
 use Rattle.routes.proofs.InTurnLaws.{goes-on, stops}
-use mathlib.Core.Path.{sym, _∙_}
 use borrow.Author.Needs.{needs}
 use Rattle.routes.proofs.in_turn.Statement.{statement}
 use Rattle.routes.proofs.in_turn.Tie as tie

@@ -1,5 +1,4 @@
 -- Stage by stage. Assumes nothing.
-use native.Mathlib.Omega.{arith}
 use Rattle.routes.specs.Walk.{judgedNext}
 use Rattle.routes.proofs.InTurnLaws.{four-in-turn}
 use borrow.Author.Needs.{needs}

@@ -1,6 +1,5 @@
 -- The walk, then what is missing at its end. Assumes nothing.
 use Rattle.routes.specs.Walk.{walked}
-use native.Mathlib.Omega.{arith}
 use borrow.Author.Needs.{needs}
 use Rattle.routes.proofs.judge_range.Statement.{statement}
 use Rattle.routes.proofs.judge_range.Tie as tie

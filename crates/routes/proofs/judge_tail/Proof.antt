@@ -1,7 +1,6 @@
 -- One law for each way to return. Assumes nothing.
 use mathlib.Core.Path.{refl}
 use Rattle.routes.proofs.FileLaws.{tail-none, tail-short, tail-long}
-use native.Mathlib.Omega.{arith}
 use borrow.Author.Needs.{needs}
 use Rattle.routes.proofs.judge_tail.Statement.{statement}
 use Rattle.routes.proofs.judge_tail.Tie as tie

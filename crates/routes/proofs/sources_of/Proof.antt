@@ -6,7 +6,6 @@ use lib.ListN.{length}
 use Rattle.routes.specs.Sources.{records, sourcesTo}
 use Rattle.routes.proofs.SourceLaws.{recordsLeft, sources-start, sources-next, left-start, left-stop, left-next, left-end, one-more, found-all}
 use borrow.Author.Needs.{needs}
-use native.Mathlib.Omega.{arith}
 use Rattle.routes.proofs.sources_of.Statement.{statement}
 use Rattle.routes.proofs.sources_of.Tie as tie
 

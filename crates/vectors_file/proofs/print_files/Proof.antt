@@ -3,7 +3,6 @@ use Prim.Native.Nat.{_-_}
 use lib.ListN.{length}
 use mathlib.Core.Path.{_≡_}
 use borrow.Author.Needs.{needs}
-use native.Mathlib.Omega.{arith}
 use Rattle.vectors_file.proofs.print_files.Statement.{statement}
 use Rattle.vectors_file.proofs.print_files.Tie as tie
 

@@ -1,4 +1,4 @@
-use mathlib.Core.Path.{sym, _∙_}
+-- The byte in the column decides. Assumes nothing.
 use Rattle.routes.specs.Stages.{awaits}
 use borrow.Author.Needs.{needs}
 use Rattle.routes.proofs.stages.awaits.Statement.{statement}

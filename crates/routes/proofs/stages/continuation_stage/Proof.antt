@@ -1,6 +1,6 @@
 -- By the column that was found. Assumes nothing.
 use Rattle.leg.proofs.StageLaws.{stage-refuses, stage-passes}
-use mathlib.Core.Path.{sym, _∙_}
+use mathlib.Core.Path.{sym}
 use Rattle.routes.specs.Stages.{continuationStage}
 use borrow.Author.Needs.{needs}
 use Rattle.routes.proofs.stages.continuation_stage.Statement.{statement}

@@ -4,8 +4,6 @@ use Prim.Native.Nat.{_≤_, _-_}
 use Rattle.routes.specs.Stages.{columnsTo, firstDifference}
 use Rattle.routes.proofs.Turns.{differing, differing-start, differing-next, differing-found, differing-end}
 use borrow.Author.Needs.{needs}
-use mathlib.Core.Path.{sym, _∙_}
-use Rattle.routes.specs.Stages.{firstDifference}
 use Rattle.routes.proofs.stages.first_difference.Statement.{statement}
 use Rattle.routes.proofs.stages.first_difference.Tie as tie
 

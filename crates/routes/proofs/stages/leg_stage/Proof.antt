@@ -1,3 +1,4 @@
+-- A primary by whether its leg stands; a continuation has no such stage. Assumes nothing.
 use mathlib.Core.Path.{sym, _∙_}
 use Rattle.routes.specs.Stages.{legStage}
 use borrow.Author.Needs.{needs}

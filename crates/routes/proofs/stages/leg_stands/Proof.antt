@@ -1,3 +1,4 @@
+-- By whether the two keys are the same. Assumes nothing.
 use mathlib.Core.Path.{sym, _∙_}
 use Rattle.routes.specs.Stages.{legStands}
 use borrow.Author.Needs.{needs}

@@ -3,9 +3,6 @@ use native.Mathlib.Omega.{arith}
 use lib.Dec.{leb}
 use borrow.Author.Tests.{leb-true, ne-eqb}
 use Rattle.slices.proofs.Cases.{and-right}
-use borrow.Author.Needs.{needs}
-use mathlib.Core.Path.{sym, _∙_}
-use borrow.Author.Tests.{eq-eqb, ne-eqb}
 use Rattle.routes.specs.Stages.{numberAfter}
 use Rattle.routes.proofs.stages.number_after.Statement.{statement}
 use Rattle.routes.proofs.stages.number_after.Tie as tie
