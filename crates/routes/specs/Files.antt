@@ -26,6 +26,8 @@ tailColumn n = cond (eqb n 0) 0 (cond (ltb n 133) (n + 1) 133)
 unfoldable pub tailStage : (bytes count : ℕ) → Verdict
 tailStage bytes count = stage (tailColumn (bytes - count * 133)) (cutShort (count + 1)) Accepted
 
+-- 2 first; then record by record. A record that is cut short, or whose byte 133 is no line feed, stands behind all those that are judged
+-- by 3 to 8, so 1 comes after these; and it comes before a continuation that is missing there.
 unfoldable pub fileVerdict : List ℕ → Verdict
 fileVerdict f =
     inTurn
