@@ -2,9 +2,9 @@
 -- themselves, are accepted. This is what lets corrections of one route be judged without the others.
 -- Assumes nothing.
 use mathlib.Core.Path.{_≡_, refl, sym, ap, subst, _∙_}
-use mathlib.Core.Logic.{_↔_, _⊎_, inl, inr, Iff·rfl}
+use mathlib.Core.Logic.{_↔_, _⊎_, inl, inr, ⊎-elim, Iff·rfl}
 use mathlib.Core.Bool.{true, false, cond, false≢true}
-use mathlib.Core.List.{List, [], _∷_, map}
+use mathlib.Core.List.{List, [], _∷_, _++_, map, append-nil}
 use Prim.Native.Nat.{ℕ}
 use Rattle.slices.specs.Order.{equal}
 use Rattle.slices.proofs.Cases.{split}
@@ -229,3 +229,31 @@ one-route-iff k rs e = rw (one-route k rs e) Iff·rfl
 -- a route without a record is accepted
 pub no-record : walked [] ≡ Accepted
 no-record = walked-iff [] .1 none-seen
+
+-- ---- what this gives to whoever changes some routes and leaves the others
+
+-- after a change whose records still rise, only the routes that are no longer as they were have to be judged
+pub touched-routes : (rs new : List (List ℕ)) → walked rs ≡ Accepted → Rising (map placeOf new)
+    → ((k : List ℕ) → (ofRoute k new ≡ ofRoute k rs) ⊎ (walked (ofRoute k new) ≡ Accepted)) → walked new ≡ Accepted
+touched-routes rs new a u h =
+    by-routes new .1 (u, λ k. ⊎-elim (λ e. ap walked e ∙ by-routes rs .0 a .1 k) (λ e. e) (h k))
+
+-- the records of a route, in two lists one behind the other
+pub of-route-append : (k : List ℕ) (xs ys : List (List ℕ)) → ofRoute k (xs ++ ys) ≡ ofRoute k xs ++ ofRoute k ys
+unfolding ofRoute
+of-route-append k [] ys = refl
+of-route-append k (x ∷ xs) ys =
+    split (equal k (keyOf x)) (λ e. rw e (ap (λ (l : List (List ℕ)). x ∷ l) (of-route-append k xs ys))) (λ e. rw e (of-route-append k xs ys))
+
+-- none, where none is of the route
+pub of-route-none : (k : List ℕ) (rs : List (List ℕ)) → Every (λ r. k ≡ keyOf r → ⊥) rs → ofRoute k rs ≡ []
+unfolding ofRoute
+of-route-none k [] e = refl
+of-route-none k (r ∷ rs) e = of-route-out k r rs (e .0) ∙ of-route-none k rs (e .1)
+
+-- so a run of records of one route, with none of it before and none behind, is that route
+pub run-of-route : (k : List ℕ) (xs run ys : List (List ℕ)) → Every (λ r. k ≡ keyOf r → ⊥) xs → Every (λ r. k ≡ keyOf r) run → Every (λ r. k ≡ keyOf r → ⊥) ys
+    → ofRoute k (xs ++ (run ++ ys)) ≡ run
+run-of-route k xs run ys x r y =
+    of-route-append k xs (run ++ ys)
+    ∙ rw (of-route-none k xs x, of-route-append k run ys, one-route k run r, of-route-none k ys y, append-nil)
