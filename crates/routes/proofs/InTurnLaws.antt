@@ -39,7 +39,9 @@ unfolding inTurn
 in-turn-cons Accepted vs = alone (inTurn vs)
 in-turn-cons (Refused r) vs = refl
 
-pub four-in-turn : (u v w x : Verdict) {y z r : Verdict} → y ≡ inTurn (w ∷ x ∷ []) → z ≡ inTurn (v ∷ y ∷ []) → r ≡ inTurn (u ∷ z ∷ []) → r ≡ inTurn (u ∷ v ∷ w ∷ x ∷ [])
+-- four, as the code takes them
+pub four-in-turn : (u v w x : Verdict) {y z r : Verdict} → y ≡ inTurn (w ∷ x ∷ []) → z ≡ inTurn (v ∷ y ∷ []) → r ≡ inTurn (u ∷ z ∷ [])
+    → r ≡ inTurn (u ∷ v ∷ w ∷ x ∷ [])
 four-in-turn u v w x p q e = e ∙ rw (q, p, in-turn-cons v (w ∷ x ∷ [])) (in-turn-cons u (v ∷ w ∷ x ∷ []))
 
 pub accepts-iff : (v : Verdict) (vs : List Verdict) → (inTurn (v ∷ vs) ≡ Accepted) ↔ ((v ≡ Accepted) × (inTurn vs ≡ Accepted))

@@ -223,7 +223,9 @@ run-from p b (m ∷ ns) (c ∷ cs) u (k, x) (h, y) e a =
 -- 0 or 1 in column 39
 primary-number : (r : List ℕ) → Code "01" (columns 39 39 r) → (byteIn 39 r ≡ 48) ⊎ (byteIn 39 r ≡ 49)
 unfolding each part
-primary-number r m = ⊎-elim (λ e. inl (let h : byteIn 39 r ≡ 48 = cc in h)) (λ n. let e = List·Memᴰ·eq-of-singleton n in inr (let h : byteIn 39 r ≡ 49 = cc in h)) (List·Memᴰ·cases-cons m)
+primary-number r m =
+    ⊎-elim (λ e. let h : byteIn 39 r ≡ 48 = cc in inl h) (λ n. let e = List·Memᴰ·eq-of-singleton n in let h : byteIn 39 r ≡ 49 = cc in inr h)
+    (List·Memᴰ·cases-cons m)
 
 after-zero : numberAfter 48 ≡ 0
 unfolding numberAfter

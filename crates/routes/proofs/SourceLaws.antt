@@ -22,7 +22,10 @@ pub last-map : (g : ℕ → List ℕ) (xs : List ℕ) (d : ℕ) → 1 ≤ length
 unfolding last
 last-map g [] d h = absurd (omega arith)
 last-map g (x ∷ []) d h = refl
-last-map g (x ∷ y ∷ xs) d h = last-map g (y ∷ xs) d (omega arith) ∙ ap g (let e : length xs + 1 - 1 ≡ length xs = omega arith in let k : suc (suc (length xs)) - 1 ≡ suc (length xs) = omega arith in let j : suc (length xs) - 1 ≡ length xs = omega arith in rw (k, j))
+last-map g (x ∷ y ∷ xs) d h =
+    let j : suc (length xs) - 1 ≡ length xs = omega arith in
+    let k : suc (suc (length xs)) - 1 ≡ suc (length xs) = omega arith in
+    last-map g (y ∷ xs) d (omega arith) ∙ ap g (rw (k, j))
 
 -- a byte that is no 0 is within the list
 pub line-within : (f : List ℕ) (i : ℕ) → getD f i 0 ≡ 10 → i < length f

@@ -21,6 +21,7 @@ use Rattle.columns.specs.Kinds.{kindOf}
 use Rattle.columns.specs.declared.Kind.{Kind}
 use Rattle.columns.specs.declared.Kind.the-variants.{Primary, Continuation}
 use Rattle.refusals.specs.Table.{continuationHead, routeNotLater, sequenceNotRisen, legPair, continuationNumber}
+use Rattle.refusals.specs.declared.Verdict.{Verdict}
 use Rattle.refusals.specs.declared.Verdict.the-variants.{Accepted, Refused}
 use Rattle.leg.specs.Judge.{stage, judged}
 use Rattle.leg.specs.Legal.{Legal}
@@ -28,7 +29,7 @@ use Rattle.leg.proofs.Legality.{accepted-iff, stage-iff}
 use Rattle.routes.specs.InTurn.{inTurn}
 use Rattle.routes.specs.Pairs.{terminatorIn, firstLeg, pair}
 use Rattle.routes.specs.Stages.{Seen, nothing, numberAfter, firstDifference, awaits, continuationColumn, continuationStage, byOrder, sequenceStage, orderStage, legStands, legStage}
-use Rattle.routes.specs.Walk.{judgedNext, seenWith, last, walkFrom, finished, walked}
+use Rattle.routes.specs.Walk.{stagesAfter, judgedNext, seenWith, last, walkFrom, finished, walked}
 use Rattle.routes.specs.Places.{keyOf, sequenceOf, Before}
 use Rattle.routes.proofs.InTurnLaws.{never, alone, accepts-iff, four-accept}
 
@@ -129,20 +130,28 @@ next-of place s r l Primary k c o g = by (order (keyOf (s .primary)) (keyOf r)) 
         follows l k (awaited-iff place s r .0 c) same (sequence-iff place (s .primary) r .0 q) (sym (stands-same (s .primary) r same) ∙ stands)
     by Greater e q = absurd (never q)
 
+-- what the last three stages say
+abbrev continued : ℕ → Seen → List ℕ → Verdict
+continued place s r = continuationStage 38 39 (kindOf r) s place r
+
+abbrev ordered : ℕ → Seen → List ℕ → Verdict
+ordered place s r = orderStage 25 (kindOf r) (s .primary) place r (sequenceStage (s .primary) place r)
+
+abbrev flown : ℕ → Seen → List ℕ → Verdict
+flown place s r = legStage 25 (kindOf r) (s .primary) place r
+
 pub next-iff : (place : ℕ) (s : Seen) (r : List ℕ) → (judgedNext s place r ≡ Accepted) ↔ Next s r
 unfolding judgedNext orderStage legStage
 next-iff place s r = (to, from)
   where
-    stages : (inTurn (judged place r ∷ continuationStage 38 39 (kindOf r) s place r ∷ orderStage 25 (kindOf r) (s .primary) place r (sequenceStage (s .primary) place r) ∷ legStage 25 (kindOf r) (s .primary) place r ∷ []) ≡ Accepted)
-        ↔ ((judged place r ≡ Accepted) × (continuationStage 38 39 (kindOf r) s place r ≡ Accepted)
-        × (orderStage 25 (kindOf r) (s .primary) place r (sequenceStage (s .primary) place r) ≡ Accepted) × (legStage 25 (kindOf r) (s .primary) place r ≡ Accepted))
-    stages = four-accept _ _ _ _
+    stages : (inTurn (stagesAfter s place r) ≡ Accepted)
+        ↔ ((judged place r ≡ Accepted) × (continued place s r ≡ Accepted) × (ordered place s r ≡ Accepted) × (flown place s r ≡ Accepted))
+    stages = four-accept (judged place r) (continued place s r) (ordered place s r) (flown place s r)
 
     to : judgedNext s place r ≡ Accepted → Next s r
     to e = let w = stages .0 e in next-of place s r (accepted-iff r place .0 (w .0)) (kindOf r) refl (w .1) (w .2) (w .3)
 
-    all-stages : Legal r → continuationStage 38 39 (kindOf r) s place r ≡ Accepted
-        → orderStage 25 (kindOf r) (s .primary) place r (sequenceStage (s .primary) place r) ≡ Accepted → legStage 25 (kindOf r) (s .primary) place r ≡ Accepted → judgedNext s place r ≡ Accepted
+    all-stages : Legal r → continued place s r ≡ Accepted → ordered place s r ≡ Accepted → flown place s r ≡ Accepted → judgedNext s place r ≡ Accepted
     all-stages l c o g = stages .1 (accepted-iff r place .1 l, c, o, g)
 
     from : Next s r → judgedNext s place r ≡ Accepted

@@ -74,10 +74,11 @@ enum-known-verdict c = search needs
 
 returns : tie.Need-returns Inv-loop μ-loop
 returns c =
-    let turn = c .before .before .before .before .before .before in
+    let judged = c .before .before .before in
+    let inv = judged .before .before .before .before .loop .inv in
     sym
-    (turn .before .loop .inv .3
-    ∙ walking-stop _ _ _ (turn .before .loop .inv .2) _ _ _ _ _ (omega arith) (c .before .before .before .before .record-at .ensures) (c .before .before .before .judge-next .ensures) (c .before .verdict .given .1))
+    (inv .3
+    ∙ walking-stop _ _ _ (inv .2) _ _ _ _ _ (omega arith) (judged .before .record-at .ensures) (judged .judge-next .ensures) (c .before .verdict .given .1))
 
 primary-after-requires : tie.Need-primary-after-requires Inv-loop μ-loop
 primary-after-requires c κs = search needs
@@ -90,12 +91,14 @@ loop-less c = search needs
 
 loop-again : tie.Need-loop-again Inv-loop μ-loop
 loop-again c =
-    let turn = c .before .before .before .before .before .before in (
+    let judged = c .before .before .before in
+    let inv = judged .before .before .before .before .loop .inv in (
       search needs,
       search needs,
       search needs,
-      turn .before .loop .inv .3
-          ∙ walking-next _ _ _ (turn .before .loop .inv .2) _ _ _ _ _ (omega arith) (c .before .before .before .before .record-at .ensures) (c .before .before .before .judge-next .ensures) (turn .before .loop .inv .1) (c .before .enum-told .given .1) (c .primary-after .ensures),
+      inv .3
+          ∙ walking-next _ _ _ (inv .2) _ _ _ _ _ (omega arith) (judged .before .record-at .ensures) (judged .judge-next .ensures)
+          (inv .1) (c .before .enum-told .given .1) (c .primary-after .ensures),
     )
 
 returns-2 : tie.Need-returns-2 Inv-loop μ-loop

@@ -35,19 +35,36 @@ first-difference-requires c κs = search needs
 
 returns : tie.Need-returns
 unfolding continuationColumn
-returns c = simp (sym (c .before .awaits .ensures) ∙ c .if1 .taken, c .before .awaits .ensures, c .before .before .enum-told .given .1)
+returns c = simp (sym (c .before .awaits .ensures) ∙ c .if1 .taken, c .before .before .enum-told .given .1)
 
 returns-2 : tie.Need-returns-2
 unfolding continuationColumn
-returns-2 c = simp (sym (c .before .awaits .ensures) ∙ c .if1 .left, c .before .awaits .ensures, c .before .before .enum-told .given .1)
+returns-2 c = simp (sym (c .before .awaits .ensures) ∙ c .if1 .left, c .before .before .enum-told .given .1)
 
 returns-3 : tie.Need-returns-3
 unfolding continuationColumn
-returns-3 c = rw (c .before .before .before .before .before .enum-told2 .given .1, ← c .before .before .before .before .byte-at .ensures, ← c .before .before .before .byte-at2 .ensures, ← c .before .before .number-after .ensures, eq-eqb _ _ (c .before .if2 .taken), c .first-difference .ensures)
+returns-3 c =
+    let number = c .before .before in
+    rw (
+      number .before .before .before .enum-told2 .given .1,
+      ← number .before .before .byte-at .ensures,
+      ← number .before .byte-at2 .ensures,
+      ← number .number-after .ensures,
+      eq-eqb _ _ (c .before .if2 .taken),
+      c .first-difference .ensures,
+    )
 
 returns-4 : tie.Need-returns-4
 unfolding continuationColumn
-returns-4 c = rw (c .before .before .before .before .enum-told2 .given .1, ← c .before .before .before .byte-at .ensures, ← c .before .before .byte-at2 .ensures, ← c .before .number-after .ensures, ne-eqb _ _ (c .if2 .left))
+returns-4 c =
+    let number = c .before in
+    rw (
+      number .before .before .before .enum-told2 .given .1,
+      ← number .before .before .byte-at .ensures,
+      ← number .before .byte-at2 .ensures,
+      ← number .number-after .ensures,
+      ne-eqb _ _ (c .if2 .left),
+    )
 
 pub continuation-column-spec : {M : Type 1} → statement M
 continuation-column-spec =

@@ -19,11 +19,11 @@ enum-told-2 c = search needs
 
 returns : tie.Need-returns
 unfolding legStage
-returns c = simp (sym (c .before .leg-stands .ensures) ∙ c .if1 .taken, c .before .leg-stands .ensures, c .before .before .enum-told .given .1)
+returns c = simp (sym (c .before .leg-stands .ensures) ∙ c .if1 .taken, c .before .before .enum-told .given .1)
 
 returns-2 : tie.Need-returns-2
 unfolding legStage
-returns-2 c = simp (c .leg-pair .ensures, sym (c .before .before .leg-stands .ensures) ∙ c .before .if1 .left, c .before .before .leg-stands .ensures, c .before .before .before .enum-told .given .1)
+returns-2 c = simp (c .leg-pair .ensures, sym (c .before .before .leg-stands .ensures) ∙ c .before .if1 .left, c .before .before .before .enum-told .given .1)
 
 returns-3 : tie.Need-returns-3
 unfolding legStage

@@ -19,14 +19,16 @@ pair-requires c κs = search needs
 
 returns : tie.Need-returns
 unfolding legStands
-returns c = simp (c .pair .ensures, c .before .of2 .ensures, c .before .before .of .ensures, sym (c .before .before .before .before .same .ensures) ∙ c .before .before .before .if1 .taken, c .before .before .before .before .same .ensures)
+returns c =
+    let same = c .before .before .before in
+    simp (c .pair .ensures, c .before .of2 .ensures, c .before .before .of .ensures, sym (same .before .same .ensures) ∙ same .if1 .taken)
 
 first-leg-requires : tie.Need-first-leg-requires
 first-leg-requires c κs = search needs
 
 returns-2 : tie.Need-returns-2
 unfolding legStands
-returns-2 c = simp (c .first-leg .ensures, sym (c .before .before .same .ensures) ∙ c .before .if1 .left, c .before .before .same .ensures)
+returns-2 c = simp (c .first-leg .ensures, sym (c .before .before .same .ensures) ∙ c .before .if1 .left)
 
 pub leg-stands-spec : {M : Type 1} → statement M
 leg-stands-spec =
