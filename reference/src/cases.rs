@@ -136,7 +136,7 @@ fn group(letter: char) -> Vec<(usize, usize)> {
 }
 
 /// The 23 terminators, each with the letters of its needed fields.
-fn each_terminator() -> impl Iterator<Item = (&'static str, &'static str)> {
+pub(crate) fn each_terminator() -> impl Iterator<Item = (&'static str, &'static str)> {
     TERMINATORS.iter().flat_map(|(names, needed)| names.split(' ').map(move |name| (name, *needed)))
 }
 
@@ -244,10 +244,10 @@ fn lengths(cases: &mut Vec<Vec<u8>>) {
 }
 
 /// A small generator (xorshift with 64 bits) with a fixed seed.
-struct Dice(u64);
+pub(crate) struct Dice(pub(crate) u64);
 
 impl Dice {
-    fn below(&mut self, limit: usize) -> usize {
+    pub(crate) fn below(&mut self, limit: usize) -> usize {
         self.0 ^= self.0 << 13;
         self.0 ^= self.0 >> 7;
         self.0 ^= self.0 << 17;

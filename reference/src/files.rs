@@ -10,9 +10,8 @@
 //! - 4, b, 0: one more byte
 //! - 5, 0, 0: behind a 0, 0, 0: the file begins as all of the one before it
 
-use crate::cases::{CONTINUATION, LEG};
+use crate::cases::{each_terminator, Dice, CONTINUATION, LEG};
 use crate::file::{check, LINE};
-use crate::layout::TERMINATORS;
 
 /// The stored files, by their paths from this package, and what they hold.
 pub fn stored_files() -> [(&'static str, Vec<u8>); 3] {
@@ -47,7 +46,8 @@ fn instructions(files: &[Vec<u8>]) -> Vec<u8> {
     let mut before: &[u8] = &[];
     for file in files {
         let from_nothing = lines(file);
-        let shared = file.chunks(LINE).zip(before.chunks(LINE)).take_while(|(one, other)| one == other).count() * LINE;
+        let shared =
+            file.chunks(LINE).zip(before.chunks(LINE)).take_while(|(one, other)| one == other).count() * LINE;
         let shared = shared.min(file.len()).min(before.len());
         let mut out_of_it = vec![5, 0, 0];
         out_of_it.extend(before[shared..].chunks(255).flat_map(|taken| [3, taken.len() as u8, 0]));
@@ -65,7 +65,8 @@ fn lines(bytes: &[u8]) -> Vec<u8> {
     let bases: Vec<Vec<u8>> = bases().into_iter().map(|base| [base, vec![b'\n']].concat()).collect();
     let mut made = Vec::new();
     for line in bytes.chunks(LINE) {
-        let differing = |base: &Vec<u8>| (0..line.len()).filter(|at| base[*at] != line[*at]).collect::<Vec<_>>();
+        let differing =
+            |base: &Vec<u8>| (0..line.len()).filter(|at| base[*at] != line[*at]).collect::<Vec<_>>();
         let (n, columns) = bases
             .iter()
             .map(differing)
@@ -129,12 +130,12 @@ fn leg(sequence: usize, changes: &[Change]) -> Vec<u8> {
 
 /// A good continuation of that leg with a continuation number.
 fn continuation(sequence: usize, number: char, changes: &[Change]) -> Vec<u8> {
-    let own = [(27, format!("{sequence:03}")), (39, number.to_string())];
-    changed(&changed(CONTINUATION.as_bytes(), &own.each_ref().map(|(at, text)| (*at, text.as_str()))), changes)
+    let own = changed(CONTINUATION.as_bytes(), &[(27, &format!("{sequence:03}")), (39, &number.to_string())]);
+    changed(&own, changes)
 }
 
 fn terminators() -> Vec<&'static str> {
-    TERMINATORS.iter().flat_map(|(names, _)| names.split(' ')).collect()
+    each_terminator().map(|(name, _)| name).collect()
 }
 
 /// Legs of one route, one after the other.
@@ -190,7 +191,8 @@ fn continued(files: &mut Vec<Vec<u8>>) {
     let numbers: Vec<char> = ('2'..='9').chain('A'..='Z').collect();
     let opening = leg(10, &[(39, "1")]);
     for count in [0, 1, 2, 8, 9, 33, 34] {
-        let run: Vec<Vec<u8>> = numbers[..count].iter().map(|number| continuation(10, *number, &[])).collect();
+        let run: Vec<Vec<u8>> =
+            numbers[..count].iter().map(|number| continuation(10, *number, &[])).collect();
         let run = [vec![opening.clone()], run].concat();
         files.push(run.concat());
         files.push([run.clone(), vec![leg(20, &[])]].concat().concat());
@@ -244,7 +246,13 @@ fn routes(files: &mut Vec<Vec<u8>>) {
         &[("AAA1 ", 10), ("AAA- ", 10)],
     ];
     for order in orders {
-        files.push(order.iter().map(|(transition, sequence)| route(transition, *sequence)).collect::<Vec<_>>().concat());
+        files.push(
+            order
+                .iter()
+                .map(|(transition, sequence)| route(transition, *sequence))
+                .collect::<Vec<_>>()
+                .concat(),
+        );
     }
     // The first column that differs decides, and 26 is none of a route.
     files.push([leg(10, &[]), leg(10, &[(1, "T"), (21, "     ")])].concat());
@@ -344,18 +352,6 @@ fn cuts(files: &mut Vec<Vec<u8>>) {
     // Without its line feed a record moves all that follow.
     files.push([leg(10, &[])[..132].to_vec(), leg(20, &[]), leg(30, &[])].concat());
     files.push([leg(10, &[]), leg(20, &[])[..131].to_vec(), b"\n".to_vec(), leg(30, &[])].concat());
-}
-
-/// A small generator (xorshift with 64 bits) with a fixed seed.
-struct Dice(u64);
-
-impl Dice {
-    fn below(&mut self, limit: usize) -> usize {
-        self.0 ^= self.0 << 13;
-        self.0 ^= self.0 >> 7;
-        self.0 ^= self.0 << 17;
-        ((self.0 >> 20) % limit as u64) as usize
-    }
 }
 
 /// Files of five records, put in another order or with a byte or two changed

@@ -37,7 +37,8 @@ fn the_instructions_make_the_set() {
 
 #[test]
 fn the_set_meets_every_refusal_and_acceptance() {
-    let numbers: HashSet<u8> = files::all().iter().map(|file| check(file).map_or_else(|r| r.number, |()| 0)).collect();
+    let numbers: HashSet<u8> =
+        files::all().iter().map(|file| check(file).map_or_else(|r| r.number, |()| 0)).collect();
     assert_eq!(numbers, (0..=8).collect());
 }
 
