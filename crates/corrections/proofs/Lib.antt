@@ -1,3 +1,5 @@
 -- The laws of the crate.
 pub mod ReachLaws
 pub mod LineLaws
+mod IndexLaws
+pub mod Turns

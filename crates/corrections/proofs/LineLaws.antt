@@ -29,7 +29,7 @@ module _ (begun i : ℕ) (log : List ℕ) {h w : ℕ} (eh : h ≡ reachAt (headi
   not-heading n = whole-no (heading (begun + 1)) i log eh (λ (q : h ≡ length (heading (begun + 1))). n (q ∙ sym ew))
 
   pub line-first : (h ≡ w → ⊥) → begun ≡ 0 → Stopped (h + 1) ≡ lineAt begun i log
-  unfolding lineAt lineOf longest reachAt
+  unfolding lineAt lineOf forms longest reachAt
   line-first n z =
       rw (not-heading n, eq-eqb begun 0 z, ← eh) (let q : max h 0 ≡ h = omega arith in rw q)
 
@@ -44,7 +44,7 @@ module _ (begun i : ℕ) (log : List ℕ) {h w : ℕ} (eh : h ≡ reachAt (headi
       line-put q = rw (not-heading n, ne-eqb begun 0 begin, whole-no (change 68) i log ed m, whole-yes (change 65) i log ea q)
 
       pub line-stopped : {x y : ℕ} → (a ≡ 135 → ⊥) → x ≡ max d a → y ≡ max h x → Stopped (y + 1) ≡ lineAt begun i log
-      unfolding lineAt lineOf longest change reachAt
+      unfolding lineAt lineOf forms longest change reachAt
       line-stopped o p q =
           let last : max a 0 ≡ a = omega arith in
           rw (not-heading n, ne-eqb begun 0 begin, whole-no (change 68) i log ed m, whole-no (change 65) i log ea o, ← eh, ← ed, ← ea, last, q, p)

@@ -43,7 +43,7 @@ change letter = exactly letter ∷ exactly 9 ∷ (replicate 132 printable ++ end
 
 -- The forms of a line where so many corrections have begun: "the first is 1 and each next is one more"; "A D or A line before the first
 -- C is bad."
-abbrev pub forms : ℕ → List Form
+unfoldable pub forms : ℕ → List Form
 forms begun = heading (begun + 1) ∷ cond (eqb begun 0) [] (change 68 ∷ change 65 ∷ [])
 
 -- how many bytes from the left are as the form has them

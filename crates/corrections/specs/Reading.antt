@@ -5,6 +5,7 @@ use mathlib.Core.Bool.{cond}
 use mathlib.Core.List.{List, [], _∷_, _++_, map}
 use lib.Dec.{eqb, leb, ltb}
 use lib.ListN.{length, drop, replicate}
+use lib.Seq.{sets}
 use Rattle.refusals.specs.Table.{logLine, logTooLong, tooManyCorrections, noRoom}
 use Rattle.refusals.specs.declared.Refusal.{Refusal}
 use Rattle.refusals.specs.declared.Verdict.{Verdict}
@@ -103,4 +104,15 @@ indexOf (said n es) = record {
   kind = padded (map (λ (e : Entry). e .letter) es);
   at = padded (map (λ (e : Entry). e .at) es);
   correction = padded (map (λ (e : Entry). e .correction) es);
+}
+
+-- an index with more lines behind those that it has
+unfoldable pub grown : Index → (begun : ℕ) → List Entry → Index
+grown i begun es = record {
+  verdict = i .verdict;
+  corrections = begun;
+  count = i .count + length es;
+  kind = sets (i .kind) (i .count) (map (λ (e : Entry). e .letter) es);
+  at = sets (i .at) (i .count) (map (λ (e : Entry). e .at) es);
+  correction = sets (i .correction) (i .count) (map (λ (e : Entry). e .correction) es);
 }

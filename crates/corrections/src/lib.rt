@@ -3,10 +3,11 @@
 mod lines;
 
 ghost use mathlib.Core.Path.{_≡_};
+ghost use mathlib.Core.List.{[], _∷_};
 ghost use Prim.Native.Nat.{_+_, _-_, _<_, _≤_};
 ghost use lib.ListN.{length};
-ghost use Rattle.refusals.specs.Table.{refusal};
 ghost use Rattle.corrections.specs.Reading.{
+  entry,
   refused,
   said,
   lineVerdict,
@@ -16,6 +17,7 @@ ghost use Rattle.corrections.specs.Reading.{
   entriesOf,
   readLog,
   indexOf,
+  grown,
 };
 use lines::Line;
 use refusals::Refusal;
@@ -30,4 +32,161 @@ pub struct Index {
     pub kind: [u8; 444],
     pub at: [u32; 444],
     pub correction: [u32; 444],
+}
+
+// The index before the first line.
+fn empty() -> Index
+    ensures { λ r. ⌜ r ≡ indexOf (said 0 []) ⌝ }
+{
+    Index {
+        verdict: Verdict::Accepted,
+        corrections: 0,
+        count: 0,
+        kind: [0u8; 444],
+        at: [0u32; 444],
+        correction: [0u32; 444],
+    }
+}
+
+// What is left of it on a refusal: nothing but zeros.
+fn refused_by(refusal: Refusal) -> Index
+    ensures { λ r. ⌜ r ≡ indexOf (refused refusal) ⌝ }
+{
+    Index {
+        verdict: Verdict::Refused(refusal),
+        corrections: 0,
+        count: 0,
+        kind: [0u8; 444],
+        at: [0u32; 444],
+        correction: [0u32; 444],
+    }
+}
+
+// How many A lines have room beside so many frozen records.
+fn room_beside(frozen: usize) -> usize
+    ensures { λ r. ⌜ r ≡ 480 - frozen ⌝ }
+{
+    if frozen < 480 { 480 - frozen } else { 0 }
+}
+
+// How many have room after a line.
+fn room_after(line: Line, room: usize) -> usize
+    ensures { λ r. ⌜ r ≡ roomAfter room line ⌝ }
+{
+    match line {
+        Line::Heading => room,
+        Line::TakenOut => room,
+        Line::PutIn => {
+            if room == 0 {
+                return 0;
+            }
+            room - 1
+        }
+        Line::Stopped(column) => room,
+    }
+}
+
+// Judges a line by its number, by how many corrections have begun and by how many A lines have room: 9, then 13.
+fn judge_line(line: Line, number: usize, begun: usize, room: usize) -> Verdict
+    ensures { λ r. ⌜ r ≡ lineVerdict number begun room line ⌝ }
+{
+    match line {
+        Line::Heading => {
+            if begun < 200 {
+                return Verdict::Accepted;
+            }
+            Verdict::Refused(Refusal::too_many_corrections(number))
+        }
+        Line::TakenOut => Verdict::Accepted,
+        Line::PutIn => {
+            if room == 0 {
+                return Verdict::Refused(Refusal::no_room(number));
+            }
+            Verdict::Accepted
+        }
+        Line::Stopped(column) => Verdict::Refused(Refusal::log_line(number, column)),
+    }
+}
+
+// How many bytes a line has, its line feed among them.
+fn width(line: Line, begun: usize) -> usize
+    requires { ⌜ begun ≤ 200 ⌝ }
+    ensures { λ r. ⌜ r ≡ widthOf begun line ⌝ }
+{
+    match line {
+        Line::Heading => lines::heading_width(begun + 1),
+        Line::TakenOut => 135,
+        Line::PutIn => 135,
+        Line::Stopped(column) => column,
+    }
+}
+
+// The index with one D or A line more, which stands at an offset.
+fn with_change(found: Index, letter: u8, at: usize) -> Index
+    requires { ⌜ (found .count < 444) × (found .corrections ≤ 200) × (at ≤ 60000) ⌝ }
+    ensures { λ r. ⌜ r ≡ grown found (found .corrections) (entry letter (at + 2) (found .corrections) ∷ []) ⌝ }
+{
+    let i = found.count;
+    let begun = found.corrections;
+    let mut next = found;
+    next.kind[i] = letter;
+    next.at[i] = (at + 2) as u32;
+    next.correction[i] = begun as u32;
+    next.count = i + 1;
+    next
+}
+
+// The index with one correction more.
+fn with_heading(found: Index) -> Index
+    requires { ⌜ found .corrections ≤ 200 ⌝ }
+    ensures { λ r. ⌜ r ≡ grown found (found .corrections + 1) [] ⌝ }
+{
+    let begun = found.corrections;
+    let mut next = found;
+    next.corrections = begun + 1;
+    next
+}
+
+// The index with what a line adds, which stands at an offset.
+fn with_line(found: Index, line: Line, at: usize) -> Index
+    requires { ⌜ (found .count + length (entriesOf (found .corrections) at line) ≤ 444) × (found .corrections ≤ 200) × (at ≤ 60000) ⌝ }
+    ensures { λ r. ⌜ r ≡ grown found (begunAfter (found .corrections) line) (entriesOf (found .corrections) at line) ⌝ }
+{
+    match line {
+        Line::Heading => with_heading(found),
+        Line::TakenOut => with_change(found, b'D', at),
+        Line::PutIn => with_change(found, b'A', at),
+        Line::Stopped(column) => found,
+    }
+}
+
+// Reads a log beside so many frozen records: 13 for its length; then line by line 9, and 13 for correction 201 and for an A line that
+// has no room.
+pub fn index_of(log: &[u8], frozen: usize) -> Index
+    ensures { λ r. ⌜ r ≡ indexOf (readLog (now (log .entry)) frozen) ⌝ }
+{
+    if 60000 < log.len() {
+        return refused_by(Refusal::log_too_long());
+    }
+    let mut found = empty();
+    let mut room = room_beside(frozen);
+    let mut number: usize = 1;
+    let mut at: usize = 0;
+    while at < log.len() {
+        let begun = found.corrections;
+        let line = lines::line_at(log, at, begun);
+        let verdict = judge_line(line, number, begun, room);
+        match verdict {
+            Verdict::Accepted => {}
+            Verdict::Refused(r) => {
+                return refused_by(r);
+            }
+        }
+        let next = with_line(found, line, at);
+        found = next;
+        room = room_after(line, room);
+        at += width(line, begun);
+        number += 1;
+    }
+    found
 }
