@@ -1,40 +1,16 @@
 -- The index grows by the lines that are read: one behind the other, from the empty one, up to the whole reading.
 -- Assumes nothing.
-use mathlib.Core.Path.{_≡_, refl, sym, ap, _∙_}
-use mathlib.Core.List.{List, [], _∷_, _++_, map}
-use Prim.Native.Nat.{ℕ, zero, suc, _+_, _-_, _≤_, _<_}
+use mathlib.Core.Path.{_≡_, refl, _∙_}
+use mathlib.Core.List.{List, [], _++_, map, map-append}
+use Prim.Native.Nat.{ℕ, _+_, _-_, _≤_, _<_}
 use native.Mathlib.Omega.{arith}
-use lib.ListN.{length, take, drop, set, replicate, length-append, length-map, length-replicate}
-use lib.Seq.{sets, sets-eq}
-use Rattle.refusals.specs.declared.Verdict.{Verdict}
-use Rattle.refusals.specs.declared.Verdict.the-variants.{Accepted, Refused}
+use lib.ListN.{length, length-append, length-map}
+use lib.Seq.{sets}
+use Rattle.slices.proofs.WriteLaws.{sets-append, stored-front}
 use Rattle.corrections.specs.declared.lines.Line.{Line}
 use Rattle.corrections.specs.declared.lines.Line.the-variants.{TakenOut, PutIn}
 use Rattle.corrections.specs.declared.Index.{Index}
-use Rattle.corrections.specs.Reading.{Entry, Reading, refused, said, entriesOf, withEntries, padded, indexOf, grown}
-
--- ---- lists
-
-sets-append : (xs ys l : List ℕ) (i : ℕ) → sets l i (xs ++ ys) ≡ sets (sets l i xs) (i + length xs) ys
-sets-append [] ys l i = let e : i + 0 ≡ i = omega arith in rw e
-sets-append (x ∷ xs) ys l i = let e : i + suc (length xs) ≡ suc i + length xs = omega arith in rw e (sets-append xs ys (set l i x) (suc i))
-
-map-append : {A B : Type 0} (f : A → B) (xs ys : List A) → map f (xs ++ ys) ≡ map f xs ++ map f ys
-map-append f [] ys = refl
-map-append f (x ∷ xs) ys = ap (λ (l : List _). f x ∷ l) (map-append f xs ys)
-
-drop-zeros : (n m : ℕ) → drop {A = ℕ} n (replicate m 0) ≡ replicate (m - n) 0
-drop-zeros zero m = let e : m - 0 ≡ m = omega arith in rw e
-drop-zeros (suc n) zero = let e : 0 - suc n ≡ 0 = omega arith in rw e
-drop-zeros (suc n) (suc m) = let e : suc m - suc n ≡ m - n = omega arith in rw e (drop-zeros n m)
-
--- stored from the front in nothing but zeros
-stored-front : (xs : List ℕ) → length xs ≤ 444 → sets (replicate 444 0) 0 xs ≡ padded xs
-stored-front xs h =
-    let e : 0 + length xs ≡ length xs = omega arith in
-    sets-eq xs (replicate 444 0) 0 (omega (arith, length-replicate {A = ℕ} 444 0)) ∙ rw e (ap (λ (l : List ℕ). xs ++ l) (drop-zeros (length xs) 444))
-
--- ---- the index
+use Rattle.corrections.specs.Reading.{Entry, Reading, refused, said, entriesOf, withEntries, indexOf, grown}
 
 pub grown-none : (i : Index) → grown i (i .corrections) [] ≡ i
 unfolding grown
@@ -60,9 +36,9 @@ grown-empty n es h =
     let e : 0 + length es ≡ length es = omega arith in
     rw (
       e,
-      stored-front (map (λ (x : Entry). x .letter) es) (omega (arith, length-map es (λ (x : Entry). x .letter))),
-      stored-front (map (λ (x : Entry). x .at) es) (omega (arith, length-map es (λ (x : Entry). x .at))),
-      stored-front (map (λ (x : Entry). x .correction) es) (omega (arith, length-map es (λ (x : Entry). x .correction))),
+      stored-front 0 444 (map (λ (x : Entry). x .letter) es) (omega (arith, length-map es (λ (x : Entry). x .letter))),
+      stored-front 0 444 (map (λ (x : Entry). x .at) es) (omega (arith, length-map es (λ (x : Entry). x .at))),
+      stored-front 0 444 (map (λ (x : Entry). x .correction) es) (omega (arith, length-map es (λ (x : Entry). x .correction))),
     )
 
 -- room for a line of the index is room for it in the index's columns

@@ -1,13 +1,12 @@
 -- Which line stands at an offset, one law for each way in which the code finds it.
 -- Assumes nothing.
-use mathlib.Core.Path.{_≡_, refl, sym, _∙_}
+use mathlib.Core.Path.{_≡_, sym, _∙_}
 use mathlib.Core.Bool.{true, false}
-use mathlib.Core.List.{List, [], _∷_}
+use mathlib.Core.List.{List}
 use Prim.Native.Nat.{ℕ, _+_, max}
 use native.Mathlib.Omega.{arith}
 use lib.ListN.{length, drop}
 use borrow.Author.Tests.{eq-eqb, ne-eqb}
-use Rattle.corrections.specs.declared.lines.Line.{Line}
 use Rattle.corrections.specs.declared.lines.Line.the-variants.{Heading, TakenOut, PutIn, Stopped}
 use Rattle.corrections.specs.Lines.{Form, heading, change, forms, reach, reachAt, whole, longest, lineOf, lineAt}
 

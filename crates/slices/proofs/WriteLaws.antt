@@ -1,12 +1,12 @@
--- Laws of lists that are written over: one byte more of a run, and one byte more made 0.
+-- Laws of lists that are written over: one byte more of a run, one byte more made 0, and one run stored behind another.
 -- Assumes nothing.
-use mathlib.Core.Path.{_≡_, _∙_}
-use mathlib.Core.List.{List, _++_, append-nil}
-use Prim.Native.Nat.{ℕ, suc, _+_, _-_, _≤_, _<_}
+use mathlib.Core.Path.{_≡_, ap, _∙_}
+use mathlib.Core.List.{List, [], _∷_, _++_, append-nil}
+use Prim.Native.Nat.{ℕ, zero, suc, _+_, _-_, _≤_, _<_}
 use native.Mathlib.Omega.{arith}
 use native.Mathlib.Numerals.{add-one}
-use lib.ListN.{length, getD, set, take, replicate, length-set}
-use lib.Seq.{sets, take-suc-set, take-all, append-snoc}
+use lib.ListN.{length, getD, set, take, drop, replicate, length-set, length-replicate}
+use lib.Seq.{sets, sets-eq, take-suc-set, take-all, append-snoc}
 use Rattle.slices.specs.Part.{part}
 use Rattle.slices.proofs.PartLaws.{part-next, part-done, part-whole}
 
@@ -41,3 +41,21 @@ cleared-next out i h =
 pub cleared-end : (out : List ℕ) (i : ℕ) → length out ≤ i → cleared out i ≡ out
 unfolding cleared
 cleared-end out i h = let e : length out - i ≡ 0 = omega arith in rw (e, take-all i out h, append-nil)
+
+-- ---- stored one behind the other
+
+pub sets-append : {A : Type 0} (xs ys l : List A) (i : ℕ) → sets l i (xs ++ ys) ≡ sets (sets l i xs) (i + length xs) ys
+sets-append [] ys l i = let e : i + 0 ≡ i = omega arith in rw e
+sets-append (x ∷ xs) ys l i =
+    let e : i + suc (length xs) ≡ suc i + length xs = omega arith in rw e (sets-append xs ys (set l i x) (suc i))
+
+drop-replicate : {A : Type 0} (a : A) (n m : ℕ) → drop n (replicate m a) ≡ replicate (m - n) a
+drop-replicate a zero m = let e : m - 0 ≡ m = omega arith in rw e
+drop-replicate a (suc n) zero = let e : 0 - suc n ≡ 0 = omega arith in rw e
+drop-replicate a (suc n) (suc m) = let e : suc m - suc n ≡ m - n = omega arith in rw e (drop-replicate a n m)
+
+-- stored from the front on among so many that are all the same
+pub stored-front : {A : Type 0} (a : A) (m : ℕ) (xs : List A) → length xs ≤ m → sets (replicate m a) 0 xs ≡ xs ++ replicate (m - length xs) a
+stored-front a m xs h =
+    let e : 0 + length xs ≡ length xs = omega arith in
+    sets-eq xs (replicate m a) 0 (omega (arith, length-replicate m a)) ∙ rw e (ap (λ (l : List _). xs ++ l) (drop-replicate a (length xs) m))

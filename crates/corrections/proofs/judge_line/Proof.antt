@@ -1,9 +1,7 @@
 -- By the line. Assumes nothing.
-use mathlib.Core.Path.{sym}
 use mathlib.Core.Path.{ap}
 use borrow.Author.Tests.{lt-ltb, le-ltb, eq-eqb, ne-eqb}
 use Rattle.refusals.specs.declared.Verdict.the-variants.{Refused}
-use native.Mathlib.Omega.{arith}
 use borrow.Author.Needs.{needs}
 use Rattle.corrections.proofs.judge_line.Statement.{statement}
 use Rattle.corrections.proofs.judge_line.Tie as tie

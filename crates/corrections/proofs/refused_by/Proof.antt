@@ -1,8 +1,6 @@
 -- Computed. Assumes nothing.
 use mathlib.Core.Path.{refl}
 use Rattle.corrections.specs.Reading.{indexOf}
-use borrow.Author.Needs.{needs}
-use native.Mathlib.Omega.{arith}
 use Rattle.corrections.proofs.refused_by.Statement.{statement}
 use Rattle.corrections.proofs.refused_by.Tie as tie
 

@@ -1,6 +1,5 @@
 -- By the line. Assumes nothing.
 
-use native.Mathlib.Omega.{arith}
 use borrow.Author.Needs.{needs}
 use Rattle.corrections.proofs.width.Statement.{statement}
 use Rattle.corrections.proofs.width.Tie as tie

@@ -1,7 +1,6 @@
 -- One more stored in each column. Assumes nothing.
 use mathlib.Core.Path.{refl}
 use Rattle.corrections.specs.Reading.{grown}
-use native.Mathlib.Omega.{arith}
 use borrow.Author.Needs.{needs}
 use Rattle.corrections.proofs.with_change.Statement.{statement}
 use Rattle.corrections.proofs.with_change.Tie as tie

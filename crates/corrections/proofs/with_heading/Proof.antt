@@ -1,6 +1,5 @@
 -- No line more. Assumes nothing.
 use Rattle.corrections.proofs.IndexLaws.{grown-heading}
-use native.Mathlib.Omega.{arith}
 use borrow.Author.Needs.{needs}
 use Rattle.corrections.proofs.with_heading.Statement.{statement}
 use Rattle.corrections.proofs.with_heading.Tie as tie

@@ -1,7 +1,5 @@
 -- By the number of digits. Assumes nothing.
 use Rattle.corrections.proofs.ReachLaws.{heading-ones, heading-tens, heading-hundreds}
-use borrow.Author.Needs.{needs}
-use native.Mathlib.Omega.{arith}
 use Rattle.corrections.proofs.lines.heading_width.Statement.{statement}
 use Rattle.corrections.proofs.lines.heading_width.Tie as tie
 

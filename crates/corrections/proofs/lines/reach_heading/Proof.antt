@@ -1,7 +1,6 @@
 -- One place of the form, and then the others. Assumes nothing.
 use mathlib.Core.Path.{refl}
 use mathlib.Core.List.{_∷_, _++_, map}
-use native.Mathlib.Omega.{arith}
 use lib.Dec.{lit<}
 use Rattle.corrections.specs.Lines.{exactly, ended, decimal, heading}
 use Rattle.corrections.proofs.ReachLaws.{along, reach-short, tab-short}

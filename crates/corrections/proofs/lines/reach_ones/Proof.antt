@@ -1,9 +1,7 @@
 -- One place of the form, and then the others. Assumes nothing.
-use mathlib.Core.List.{_∷_}
-use Prim.Native.Nat.{_+_, _/_, _%_}
 use native.Mathlib.Omega.{arith}
 use lib.Dec.{lit<}
-use Rattle.corrections.specs.Lines.{exactly, ended}
+use Rattle.corrections.specs.Lines.{ended}
 use Rattle.corrections.proofs.ReachLaws.{along, reach-short}
 use borrow.Author.Needs.{needs}
 use Rattle.corrections.proofs.lines.reach_ones.Statement.{statement}

@@ -1,6 +1,6 @@
 -- One place of the form, and then the others. Assumes nothing.
 use mathlib.Core.List.{_∷_}
-use Prim.Native.Nat.{_+_, _/_, _%_}
+use Prim.Native.Nat.{_+_, _%_}
 use native.Mathlib.Omega.{arith}
 use lib.Dec.{lit<}
 use Rattle.corrections.specs.Lines.{exactly, ended}
