@@ -1,0 +1,12 @@
+-- Computed. Assumes nothing.
+use Rattle.wanted.specs.Numbers.{isDigit}
+use borrow.Author.Needs.{needs}
+use Rattle.wanted.proofs.is_digit.Statement.{statement}
+use Rattle.wanted.proofs.is_digit.Tie as tie
+
+returns : tie.Need-returns
+unfolding isDigit
+returns c = search needs
+
+pub is-digit-spec : {M : Type 1} → statement M
+is-digit-spec = tie.close (tie.spec returns)

@@ -1,0 +1,44 @@
+-- The numbers of a list of wanted corrections, one on each line.
+-- Assumes nothing.
+use Prim.Native.Nat.{ℕ, zero, suc, _+_, _-_, _*_}
+use mathlib.Core.Bool.{Bool, cond, _&&_}
+use mathlib.Core.List.{List, [], _∷_, _++_}
+use lib.Dec.{eqb, leb, ltb}
+use lib.ListN.{length, take, drop, replicate}
+use Rattle.slices.specs.Search.{firstAt, isLineFeed}
+use Rattle.wanted.specs.declared.Wanted.{Wanted}
+
+unfoldable pub isDigit : ℕ → Bool
+isDigit b = leb 48 b && leb b 57
+
+-- one to three digits are their number; anything else reads as 0
+unfoldable pub numberOf : List ℕ → ℕ
+numberOf [] = 0
+numberOf (a ∷ []) = cond (isDigit a) (a - 48) 0
+numberOf (a ∷ b ∷ []) = cond (isDigit a && isDigit b) ((a - 48) * 10 + (b - 48)) 0
+numberOf (a ∷ b ∷ c ∷ []) = cond (isDigit a && (isDigit b && isDigit c)) ((a - 48) * 100 + (b - 48) * 10 + (c - 48)) 0
+numberOf (a ∷ b ∷ c ∷ d ∷ ds) = 0
+
+-- how many bytes stand in front of the first line feed
+abbrev pub toLineFeed : List ℕ → ℕ
+toLineFeed bs = firstAt isLineFeed bs
+
+-- "a line that isn't one to three digits and a line feed reads as 0": so does one without a line feed
+unfoldable pub lineNumber : List ℕ → ℕ
+lineNumber bs = cond (ltb (toLineFeed bs) (length bs)) (numberOf (take (toLineFeed bs) bs)) 0
+
+-- "and so does line 201, which ends the list": where so many lines may still be read
+unfoldable pub numbersIn : ℕ → List ℕ → List ℕ
+numbersIn zero bs = cond (eqb (length bs) 0) [] (0 ∷ [])
+numbersIn (suc most) bs = cond (eqb (length bs) 0) [] (lineNumber bs ∷ numbersIn most (drop (toLineFeed bs + 1) bs))
+
+-- the numbers with zeros behind them
+unfoldable pub listed : List ℕ → Wanted
+listed ns = record { count = length ns; at = ns ++ replicate (201 - length ns) 0 }
+
+unfoldable pub wantedOf : List ℕ → Wanted
+wantedOf text = listed (numbersIn 200 text)
+
+-- the number of the line that begins at an offset
+unfoldable pub numberAt : ℕ → List ℕ → ℕ
+numberAt i text = lineNumber (drop i text)
