@@ -3,3 +3,4 @@ pub mod ReachLaws
 pub mod LineLaws
 mod IndexLaws
 pub mod Turns
+mod Vectors

@@ -1,3 +1,4 @@
 -- The laws of the crate.
 pub mod NumberLaws
 mod Turns
+mod Vectors
