@@ -4,3 +4,6 @@ pub mod LineLaws
 mod IndexLaws
 pub mod Turns
 mod Vectors
+pub mod FormLaws
+pub mod StopLaws
+pub mod Legality

@@ -51,7 +51,7 @@ refuses : Verdict → ℕ
 refuses Accepted = 0
 refuses (Refused r) = 1
 
-not-accepted : {r : Refusal} → Refused r ≡ Accepted → ⊥
+pub not-accepted : {r : Refusal} → Refused r ≡ Accepted → ⊥
 unfolding refuses
 not-accepted e = let z : _≡_ {A = ℕ} 1 0 = ap refuses e in omega arith
 
@@ -165,7 +165,7 @@ pub too-long : (log : List ℕ) (frozen : ℕ) {r : Refusal} {i : Index} → 600
 unfolding readLog
 too-long log frozen h e q = q ∙ rw (lt-ltb 60000 (length log) h, e)
 
-read-end : (most number begun room at : ℕ) (bs : List ℕ) → length bs ≡ 0 → read most number begun room at bs ≡ said begun []
+pub read-end : (most number begun room at : ℕ) (bs : List ℕ) → length bs ≡ 0 → read most number begun room at bs ≡ said begun []
 unfolding read
 read-end zero number begun room at bs h = refl
 read-end (suc most) number begun room at bs h = rw (eq-eqb (length bs) 0 h)
