@@ -289,7 +289,7 @@ with-both : (es fs : List Entry) (rest : Reading) → withEntries es (withEntrie
 with-both es fs (refused r) = refl
 with-both es fs (said n gs) = ap (said n) (sym (append-assoc es fs gs))
 
-change-length : (x : Change) → Sound x → length (changeText x) ≡ 135
+pub change-length : (x : Change) → Sound x → length (changeText x) ≡ 135
 change-length x s = fits-length (change (letterOf x)) (changeText x) (fits-change x s) ∙ change-width (letterOf x)
 
 -- one change is read

@@ -7,3 +7,5 @@ mod Vectors
 pub mod FormLaws
 pub mod StopLaws
 pub mod Legality
+pub mod ReadBack
+pub mod DecimalLaws
