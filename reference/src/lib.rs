@@ -9,15 +9,21 @@
 //! - `report`: what this program answers to that set
 //! - `file`: a whole file, and the stages that look at several records (1, 2, 6, 7, 8)
 //! - `files`: the stored set of files, and what this program answers to it
+//! - `log`: a correction log as text (9, 13)
+//! - `wanted`: a list of wanted corrections
+//! - `logs`: the stored set of both, and what this program answers to it
 
 pub mod cases;
 pub mod file;
 pub mod files;
 pub mod judge;
 pub mod layout;
+pub mod log;
+pub mod logs;
 pub mod parts;
 pub mod record;
 pub mod report;
+pub mod wanted;
 
 pub use judge::judge;
 pub use parts::{Continuation, Frame, Leg, Parts};

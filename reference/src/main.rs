@@ -1,12 +1,13 @@
-//! Writes the stored sets of records and of files, and the answers to them.
+//! Writes the stored sets of records, of files and of logs, and the answers to
+//! them.
 
 use std::path::Path;
 use std::{fs, io};
 
-use reference::{files, stored_files};
+use reference::{files, logs, stored_files};
 
 fn main() -> io::Result<()> {
-    for (name, made) in stored_files().into_iter().chain(files::stored_files()) {
+    for (name, made) in stored_files().into_iter().chain(files::stored_files()).chain(logs::stored_files()) {
         let path = Path::new(env!("CARGO_MANIFEST_DIR")).join(name);
         if let Some(folder) = path.parent() {
             fs::create_dir_all(folder)?;

@@ -1,17 +1,16 @@
 -- Bytes that fit a form from its first place to its last, and that the three forms are the lines that paper 01 describes.
 -- Assumes nothing.
-use mathlib.Core.Path.{_≡_, refl, sym, ap, ap₂, subst, _∙_}
-use mathlib.Core.Bool.{Bool, true, false, cond, _&&_, false≢true}
+use mathlib.Core.Path.{_≡_, refl, ap, ap₂, _∙_}
+use mathlib.Core.Bool.{true}
 use mathlib.Core.List.{List, [], _∷_, _++_, map}
-use Prim.Native.Nat.{ℕ, zero, suc, _+_, _-_, _≤_, _<_}
+use Prim.Native.Nat.{ℕ, zero, suc, _+_, _-_}
 use native.Mathlib.Omega.{arith}
-use native.Mathlib.Nat.{not-suc-le-zero}
-use lib.Dec.{eqb, leb}
-use lib.ListN.{length, take, drop, replicate, length-append}
-use borrow.Author.Tests.{eq-eqb, ne-eqb, eqb-true, leb-true, le-leb}
+use lib.Dec.{leb}
+use lib.ListN.{length, take, replicate}
+use borrow.Author.Tests.{eq-eqb, eqb-true, leb-true, le-leb}
 use Rattle.slices.proofs.Cases.{split, and-left, and-right}
-use Rattle.corrections.specs.Lines.{Span, exactly, printable, allows, Form, ended, decimal, heading, change, reach, whole}
-use Rattle.corrections.specs.Text.{Change, takeOut, putIn, recordOf, letterOf, changeText, headingText, Printable, Sound}
+use Rattle.corrections.specs.Lines.{exactly, printable, allows, Form, ended, decimal, heading, change, reach, whole}
+use Rattle.corrections.specs.Text.{Change, recordOf, letterOf, changeText, headingText, Printable, Sound}
 
 -- place by place
 abbrev pub Fits : Form → List ℕ → Type 0

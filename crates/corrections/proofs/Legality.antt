@@ -2,7 +2,7 @@
 -- can't be completed.
 -- Assumes nothing.
 use mathlib.Core.Path.{_≡_, refl, sym, ap, subst, _∙_}
-use mathlib.Core.Bool.{true, false, cond}
+use mathlib.Core.Bool.{true, false}
 use mathlib.Core.List.{List, [], _∷_, _++_, map, append-assoc}
 use mathlib.Core.Logic.{_↔_}
 use Prim.Native.Nat.{ℕ, zero, suc, _+_, _-_, _*_, _≤_, _<_}
@@ -10,19 +10,18 @@ use native.Mathlib.Omega.{arith}
 use lib.Dec.{eqb, ltb, eqb·zero-suc}
 use lib.ListN.{length, take, drop, take-append-drop, length-append, length-drop}
 use lib.Seq.{drop-at}
-use borrow.Author.Tests.{eq-eqb, ne-eqb, eqb-true, eqb-false, ltb-true, ltb-false, lt-ltb, le-ltb}
+use borrow.Author.Tests.{ne-eqb, eqb-true, eqb-false, ltb-true, ltb-false, lt-ltb, le-ltb}
 use Rattle.slices.proofs.Cases.{split}
-use Rattle.refusals.specs.Table.{logLine, tooManyCorrections, noRoom, logTooLong}
+use Rattle.refusals.specs.Table.{tooManyCorrections, noRoom, logTooLong}
 use Rattle.refusals.specs.declared.Refusal.{Refusal}
-use Rattle.refusals.specs.declared.Verdict.{Verdict}
-use Rattle.refusals.specs.declared.Verdict.the-variants.{Accepted, Refused}
+use Rattle.refusals.specs.declared.Verdict.the-variants.{Accepted}
 use Rattle.corrections.specs.declared.lines.Line.{Line}
-use Rattle.corrections.specs.declared.lines.Line.the-variants.{Heading, TakenOut, PutIn, Stopped}
+use Rattle.corrections.specs.declared.lines.Line.the-variants.{Heading, TakenOut, PutIn}
 use Rattle.corrections.specs.Lines.{exactly, Form, ended, decimal, heading, change, forms, reach, whole, longest, lineOf}
 use Rattle.corrections.specs.Reading.{Entry, entry, Reading, refused, said, lineVerdict, begunAfter, roomAfter, widthOf, entriesOf, withEntries, before, read, readLog, indexOf}
-use Rattle.corrections.specs.Text.{Change, takeOut, putIn, recordOf, letterOf, changeText, headingText, Printable, Sound, LegalLine, begins, changes, changesText, logText, EverySound, AllSound, isPut, puts, allPuts, LegalLog, Begins, GoesWrong, here, later}
+use Rattle.corrections.specs.Text.{Change, takeOut, putIn, letterOf, changeText, headingText, Printable, Sound, LegalLine, begins, changes, changesText, logText, EverySound, AllSound, isPut, puts, allPuts, LegalLog, GoesWrong, here, later}
 use Rattle.corrections.proofs.ReachLaws.{heading-short, change-width}
-use Rattle.corrections.proofs.FormLaws.{Fits, fits-length, fits-whole, whole-fits, fits-heading, heading-fits, fits-change, change-fits}
+use Rattle.corrections.proofs.FormLaws.{fits-length, fits-whole, whole-fits, fits-heading, heading-fits, fits-change, change-fits}
 use Rattle.corrections.proofs.StopLaws.{longest-within, longest-begins, begins-longest}
 use Rattle.corrections.proofs.Turns.{Found, headed, taken, put, stopped, found, not-accepted, read-end}
 

@@ -1,18 +1,17 @@
 -- The text of a list of corrections reads back as that list.
 -- Assumes nothing.
 use mathlib.Core.Path.{_≡_, refl, sym, ap, ap₂, subst, _∙_}
-use mathlib.Core.Bool.{true, false, cond}
-use mathlib.Core.List.{List, [], _∷_, _++_, map, append-assoc, append-nil, map-append}
-use Prim.Native.Nat.{ℕ, zero, suc, _+_, _-_, _*_, _≤_, _<_}
+use mathlib.Core.List.{List, [], _∷_, _++_, map, append-assoc, append-nil}
+use Prim.Native.Nat.{ℕ, _+_, _-_, _*_, _≤_, _<_}
 use native.Mathlib.Omega.{arith}
 use lib.Dec.{eqb}
 use lib.ListN.{length, take, drop, length-append}
 use lib.Seq.{drop-at, take-at}
 use borrow.Author.Tests.{eq-eqb, ne-eqb}
 use Rattle.slices.proofs.Cases.{split}
-use Rattle.corrections.specs.Lines.{decimal, heading}
-use Rattle.corrections.specs.Reading.{Entry, entry, Reading, refused, said, readLog}
-use Rattle.corrections.specs.Text.{Change, takeOut, putIn, recordOf, letterOf, changeText, headingText, Sound, changesText, logText, EverySound, AllSound, allPuts, LegalLog, changeAt, ofCorrection, correctionsIn, correctionsOf}
+use Rattle.corrections.specs.Lines.{heading}
+use Rattle.corrections.specs.Reading.{Entry, entry, readLog}
+use Rattle.corrections.specs.Text.{Change, takeOut, putIn, letterOf, changeText, headingText, Sound, changesText, logText, EverySound, AllSound, allPuts, LegalLog, changeAt, ofCorrection, correctionsIn, correctionsOf}
 use Rattle.corrections.proofs.FormLaws.{fits-length, fits-heading}
 use Rattle.corrections.proofs.Legality.{entriesFrom, entriesIn, change-length, text-read}
 

@@ -1,18 +1,17 @@
 -- The first byte from which a line can't be completed: the bytes before it begin a legal line, and with it they begin none.
 -- Assumes nothing.
-use mathlib.Core.Path.{_≡_, refl, sym, ap, subst, _∙_}
-use mathlib.Core.Bool.{true, false, false≢true}
+use mathlib.Core.Path.{_≡_, refl, sym, subst}
+use mathlib.Core.Bool.{true}
 use mathlib.Core.List.{List, [], _∷_, _++_}
-use Prim.Native.Nat.{ℕ, zero, suc, _+_, _-_, _≤_, _<_, max, suc-le-suc}
+use Prim.Native.Nat.{ℕ, zero, suc, _+_, _-_, _≤_, max, suc-le-suc}
 use native.Mathlib.Omega.{arith}
 use native.Mathlib.Nat.{le-of-suc-le-suc, not-suc-le-zero}
 use native.Mathlib.Decide.{decLe, ℕ-discrete}
-use lib.ListN.{length, take, drop, length-append}
-use lib.Seq.{length-take-le}
+use lib.ListN.{length, take}
 use borrow.Author.Tests.{eq-eqb, ne-eqb}
 use Rattle.slices.proofs.Cases.{split}
 use Rattle.corrections.specs.Lines.{Span, exactly, printable, allows, Form, heading, change, forms, reach, longest}
-use Rattle.corrections.specs.Text.{Change, takeOut, putIn, letterOf, changeText, headingText, Sound, LegalLine, begins, changes, Begins}
+use Rattle.corrections.specs.Text.{Change, takeOut, putIn, letterOf, LegalLine, begins, changes, Begins}
 use Rattle.corrections.proofs.ReachLaws.{reach-length}
 use Rattle.corrections.proofs.FormLaws.{Fits, fits-heading, heading-fits, fits-change, change-fits}
 

@@ -6,8 +6,7 @@ use mathlib.Core.Bool.{Bool, true, _&&_}
 use mathlib.Core.List.{List, [], _∷_, _++_}
 use Prim.Native.Nat.{ℕ, zero, suc, _+_}
 use lib.Dec.{eqb}
-use lib.ListN.{replicate, take}
-use Rattle.slices.specs.Order.{order, equal}
+use lib.ListN.{replicate}
 use Rattle.refusals.specs.Table.{refusal, stated}
 use Rattle.refusals.specs.declared.Refusal.{Refusal}
 use Rattle.corrections.specs.declared.Index.{Index}
