@@ -1,11 +1,16 @@
 -- The laws of the crate.
 pub mod ReachLaws
 pub mod LineLaws
+pub mod DecimalLaws
 mod IndexLaws
 pub mod Turns
-mod Vectors
 pub mod FormLaws
 pub mod StopLaws
+pub mod FrontLaws
+pub mod Spelling
+pub mod Wrong
+pub mod TextLaws
 pub mod Legality
 pub mod ReadBack
-pub mod DecimalLaws
+pub mod Within
+mod Vectors

@@ -13,7 +13,7 @@ use Rattle.corrections.specs.Lines.{heading}
 use Rattle.corrections.specs.Reading.{Entry, entry, readLog}
 use Rattle.corrections.specs.Text.{Change, takeOut, putIn, letterOf, changeText, headingText, Sound, changesText, logText, EverySound, AllSound, allPuts, LegalLog, changeAt, ofCorrection, correctionsIn, correctionsOf}
 use Rattle.corrections.proofs.FormLaws.{fits-length, fits-heading}
-use Rattle.corrections.proofs.Legality.{entriesFrom, entriesIn, change-length, text-read}
+use Rattle.corrections.proofs.TextLaws.{entriesFrom, entriesIn, change-length, text-read}
 
 -- ---- one line
 
@@ -76,10 +76,10 @@ of-later m begun at (c ∷ cs) h =
 
 -- ---- all corrections
 
-heading-length : (n : ℕ) → length (headingText n) ≡ length (heading n)
+pub heading-length : (n : ℕ) → length (headingText n) ≡ length (heading n)
 heading-length n = fits-length (heading n) (headingText n) (fits-heading n)
 
-changes-length : (xs : List Change) → EverySound xs → length (changesText xs) ≡ length xs * 135
+pub changes-length : (xs : List Change) → EverySound xs → length (changesText xs) ≡ length xs * 135
 unfolding changesText
 changes-length [] s = omega arith
 changes-length (x ∷ xs) s = omega (arith, length-append (changeText x) (changesText xs), change-length x (s .0), changes-length xs (s .1))
