@@ -1,0 +1,7 @@
+-- The laws of this crate.
+mod ShiftLaws
+mod StateLaws
+mod ApplyLaws
+mod JudgeLaws
+mod CorrectLaws
+mod RunLaws
