@@ -97,9 +97,11 @@ Begins begun xs = (ys : List ℕ) × (after : ℕ) × LegalLine begun (xs ++ ys)
 -- The log goes wrong at a line: the lines before it are legal, the bytes before the column begin a legal line there, and with the
 -- column's byte they do not, or the log has no such byte.
 pub data GoesWrong : (begun line : ℕ) → List ℕ → Refusal → Type 0 where
-  here : {begun line : ℕ} {bs : List ℕ} (n : ℕ) → n ≤ length bs → Begins begun (take n bs) → (n + 1 ≤ length bs → Begins begun (take (n + 1) bs) → ⊥)
+  here : {begun line : ℕ} {bs : List ℕ} (n : ℕ) → n ≤ length bs → Begins begun (take n bs)
+      → (n + 1 ≤ length bs → Begins begun (take (n + 1) bs) → ⊥)
       → GoesWrong begun line bs (logLine line (n + 1))
-  later : {begun line after : ℕ} {l bs : List ℕ} {r : Refusal} → LegalLine begun l after → GoesWrong after (line + 1) bs r → GoesWrong begun line (l ++ bs) r
+  later : {begun line after : ℕ} {l bs : List ℕ} {r : Refusal} → LegalLine begun l after → GoesWrong after (line + 1) bs r
+      → GoesWrong begun line (l ++ bs) r
 
 -- ---- the corrections that a reading tells of
 

@@ -35,7 +35,8 @@ loop-holds : tie.Need-loop-holds Inv-loop μ-loop
 loop-holds c = (kept-start _ (search needs) (c .before .empty .ensures), reading-start _ _ (search needs) (c .before .empty .ensures) (c .room-beside .ensures))
 
 line-at-requires : tie.Need-line-at-requires Inv-loop μ-loop
-line-at-requires c κs = (omega (arith, c .before .loop .inv .0 .size, c .before .loop .inv .0 .inside), c .before .loop .inv .0 .begun)
+line-at-requires c κs =
+    let inv = c .before .loop .inv in (omega (arith, inv .0 .size, inv .0 .inside), inv .0 .begun)
 
 judge-line-requires : tie.Need-judge-line-requires Inv-loop μ-loop
 judge-line-requires c κs = search needs
@@ -50,10 +51,19 @@ refused-by-requires-2 : tie.Need-refused-by-requires-2 Inv-loop μ-loop
 refused-by-requires-2 c κs = search needs
 
 returns-2 : tie.Need-returns-2 Inv-loop μ-loop
-returns-2 c = reading-stop _ _ _ _ _ (c .before .before .before .before .before .before .loop-test .taken) (c .before .before .before .before .before .before .before .loop .inv .0 .counted) (c .before .before .before .before .before .line-at .ensures) (c .before .before .before .before .judge-line .ensures) (c .before .before .verdict .given .1) (c .refused-by2 .ensures) ∙ sym (c .before .before .before .before .before .before .before .loop .inv .1)
+returns-2 c =
+    let judged = c .before .before .before .before in
+    let inv = judged .before .before .before .loop .inv in
+    reading-stop _ _ _ _ _ (judged .before .before .loop-test .taken) (inv .0 .counted) (judged .before .line-at .ensures)
+    (judged .judge-line .ensures) (c .before .before .verdict .given .1) (c .refused-by2 .ensures)
+    ∙ sym (inv .1)
 
 with-line-requires : tie.Need-with-line-requires Inv-loop μ-loop
-with-line-requires c κs = (kept-room (c .before .before .before .before .before .loop .inv .0) (advances _ _ _ _ _ (c .before .before .before .line-at .ensures) (c .before .before .judge-line .ensures) (c .enum-told .given .1)), c .before .before .before .before .before .loop .inv .0 .begun, omega (arith, c .before .before .before .before .before .loop .inv .0 .size, c .before .before .before .before .before .loop .inv .0 .inside))
+with-line-requires c κs =
+    let judged = c .before .before in
+    let inv = judged .before .before .before .loop .inv in
+    let line = advances _ _ _ _ _ (judged .before .line-at .ensures) (judged .judge-line .ensures) (c .enum-told .given .1) in
+    (kept-room (inv .0) line, inv .0 .begun, omega (arith, inv .0 .size, inv .0 .inside))
 
 room-after-requires : tie.Need-room-after-requires Inv-loop μ-loop
 room-after-requires c κs = search needs
@@ -62,21 +72,33 @@ width-requires : tie.Need-width-requires Inv-loop μ-loop
 width-requires c κs = c .before .before .before .before .before .before .before .loop .inv .0 .begun
 
 add-at : tie.Need-add-at Inv-loop μ-loop
-add-at c = omega (arith, kept-sum (c .before .before .before .before .before .before .before .before .loop .inv .0) (advances _ _ _ _ _ (c .before .before .before .before .before .before .line-at .ensures) (c .before .before .before .before .before .judge-line .ensures) (c .before .before .before .enum-told .given .1)) (c .width .ensures))
+add-at c =
+    let judged = c .before .before .before .before .before in
+    let inv = judged .before .before .before .loop .inv in
+    let line = advances _ _ _ _ _ (judged .before .line-at .ensures) (judged .judge-line .ensures) (c .before .before .before .enum-told .given .1) in
+    omega (arith, kept-sum (inv .0) line (c .width .ensures))
 
 add-number : tie.Need-add-number Inv-loop μ-loop
-add-number c = omega (arith, c .before .before .before .before .before .before .before .before .loop .inv .0 .size, c .before .before .before .before .before .before .before .before .loop .inv .0 .inside, c .before .before .before .before .before .before .before .before .loop .inv .0 .counted)
+add-number c =
+    let inv = c .before .before .before .before .before .before .before .before .loop .inv in
+    omega (arith, inv .0 .size, inv .0 .inside, inv .0 .counted)
 
 loop-less : tie.Need-loop-less Inv-loop μ-loop
-loop-less c = kept-less (c .before .before .before .before .before .before .before .before .loop .inv .0) (advances _ _ _ _ _ (c .before .before .before .before .before .before .line-at .ensures) (c .before .before .before .before .before .judge-line .ensures) (c .before .before .before .enum-told .given .1)) (c .width .ensures)
+loop-less c =
+    let judged = c .before .before .before .before .before in
+    let line = advances _ _ _ _ _ (judged .before .line-at .ensures) (judged .judge-line .ensures) (c .before .before .before .enum-told .given .1) in
+    kept-less (judged .before .before .before .loop .inv .0) line (c .width .ensures)
 
 loop-again : tie.Need-loop-again Inv-loop μ-loop
 loop-again c =
-    let a = advances _ _ _ _ _ (c .before .before .before .before .before .before .line-at .ensures) (c .before .before .before .before .before .judge-line .ensures) (c .before .before .before .enum-told .given .1) in (
-      kept-next (c .before .before .before .before .before .before .before .before .loop .inv .0) a (c .before .before .with-line .ensures) (c .width .ensures),
-      c .before .before .before .before .before .before .before .before .loop .inv .1
-          ∙ reading-next _ _ _ _ _ (c .before .before .before .before .before .before .before .loop-test .taken) (c .before .before .before .before .before .before .before .before .loop .inv .0 .counted) (c .before .before .before .before .before .before .line-at .ensures) (c .before .before .before .before .before .judge-line .ensures)
-          (c .before .before .before .enum-told .given .1) (c .before .before .with-line .ensures) (c .before .room-after .ensures) (c .width .ensures),
+    let judged = c .before .before .before .before .before in
+    let inv = judged .before .before .before .loop .inv in
+    let told = c .before .before .before .enum-told .given .1 in
+    let line = advances _ _ _ _ _ (judged .before .line-at .ensures) (judged .judge-line .ensures) told in (
+      kept-next (inv .0) line (c .before .before .with-line .ensures) (c .width .ensures),
+      inv .1
+          ∙ reading-next _ _ _ _ _ (judged .before .before .loop-test .taken) (inv .0 .counted) (judged .before .line-at .ensures)
+          (judged .judge-line .ensures) told (c .before .before .with-line .ensures) (c .before .room-after .ensures) (c .width .ensures),
     )
 
 returns-3 : tie.Need-returns-3 Inv-loop μ-loop

@@ -17,7 +17,9 @@ of-one-requires : tie.Need-of-one-requires
 of-one-requires c κs = search needs
 
 returns-2 : tie.Need-returns-2
-returns-2 c = line-of-one _ _ (c .before .before .before .before .before .pre) (c .before .before .before .if1 .left) (c .before .before .if2 .taken) (c .before .byte-at .ensures) (c .of-one .ensures)
+returns-2 c =
+    let in-text = c .before .before .before in
+    line-of-one _ _ (in-text .before .before .pre) (in-text .if1 .left) (c .before .before .if2 .taken) (c .before .byte-at .ensures) (c .of-one .ensures)
 
 byte-at-requires-2 : tie.Need-byte-at-requires-2
 byte-at-requires-2 c κs = search needs
@@ -32,7 +34,11 @@ of-two-requires : tie.Need-of-two-requires
 of-two-requires c κs = search needs
 
 returns-3 : tie.Need-returns-3
-returns-3 c = line-of-two _ _ (c .before .before .before .before .before .before .before .pre) (c .before .before .before .before .before .if1 .left) (c .before .before .before .if3 .taken) (c .before .before .byte-at2 .ensures) (c .before .byte-at3 .ensures) (c .of-two .ensures)
+returns-3 c =
+    let first = c .before .before in
+    let in-text = first .before .before .before in
+    line-of-two _ _ (in-text .before .before .pre) (in-text .if1 .left) (first .before .if3 .taken) (first .byte-at2 .ensures)
+    (c .before .byte-at3 .ensures) (c .of-two .ensures)
 
 byte-at-requires-4 : tie.Need-byte-at-requires-4
 byte-at-requires-4 c κs = search needs
@@ -53,10 +59,16 @@ of-three-requires : tie.Need-of-three-requires
 of-three-requires c κs = search needs
 
 returns-4 : tie.Need-returns-4
-returns-4 c = line-of-three _ _ (c .before .before .before .before .before .before .before .before .before .pre) (c .before .before .before .before .before .before .before .if1 .left) (c .before .before .before .before .if4 .taken) (c .before .before .before .byte-at4 .ensures) (c .before .before .byte-at5 .ensures) (c .before .byte-at6 .ensures) (c .of-three .ensures)
+returns-4 c =
+    let first = c .before .before .before in
+    let in-text = first .before .before .before .before in
+    line-of-three _ _ (in-text .before .before .pre) (in-text .if1 .left) (first .before .if4 .taken) (first .byte-at4 .ensures)
+    (c .before .before .byte-at5 .ensures) (c .before .byte-at6 .ensures) (c .of-three .ensures)
 
 returns-5 : tie.Need-returns-5
-returns-5 c = line-of-others _ _ (c .before .before .before .before .before .pre) (c .before .before .before .if1 .left) (c .before .before .if2 .left) (c .before .if3 .left) (c .if4 .left)
+returns-5 c =
+    let in-text = c .before .before .before in
+    line-of-others _ _ (in-text .before .before .pre) (in-text .if1 .left) (c .before .before .if2 .left) (c .before .if3 .left) (c .if4 .left)
 
 pub line-number-spec : {M : Type 1} → statement M
 line-number-spec =

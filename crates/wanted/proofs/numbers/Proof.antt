@@ -37,7 +37,14 @@ add-k : tie.Need-add-k Inv-loop μ-loop
 add-k c = search needs
 
 returns-2 : tie.Need-returns-2 Inv-loop μ-loop
-returns-2 c = left-end _ _ _ _ (omega (arith, c .if2 .taken)) ∙ sym (c .before .before .before .before .before .loop .inv .2 ∙ left-next _ _ _ _ (c .before .before .before .before .loop-test .taken) (c .before .before .before .if1 .left) (c .before .before .before .before .before .loop .inv .1) (c .before .before .line-feed .ensures) (c .before .line-number .ensures))
+returns-2 c =
+    let found = c .before .before in
+    let inv = found .before .before .before .loop .inv in
+    left-end _ _ _ _ (omega (arith, c .if2 .taken))
+    ∙ sym
+    (inv .2
+    ∙ left-next _ _ _ _ (found .before .before .loop-test .taken) (found .before .if1 .left) (inv .1) (found .line-feed .ensures)
+    (c .before .line-number .ensures))
 
 add-i : tie.Need-add-i Inv-loop μ-loop
 add-i c = search needs
@@ -46,7 +53,15 @@ loop-less : tie.Need-loop-less Inv-loop μ-loop
 loop-less c = search needs
 
 loop-again : tie.Need-loop-again Inv-loop μ-loop
-loop-again c = (search needs, refl, c .before .before .before .before .before .loop .inv .2 ∙ left-next _ _ _ _ (c .before .before .before .before .loop-test .taken) (c .before .before .before .if1 .left) (c .before .before .before .before .before .loop .inv .1) (c .before .before .line-feed .ensures) (c .before .line-number .ensures))
+loop-again c =
+    let found = c .before .before in
+    let inv = found .before .before .before .loop .inv in (
+      search needs,
+      refl,
+      inv .2
+          ∙ left-next _ _ _ _ (found .before .before .loop-test .taken) (found .before .if1 .left) (inv .1) (found .line-feed .ensures)
+          (c .before .line-number .ensures),
+    )
 
 returns-3 : tie.Need-returns-3 Inv-loop μ-loop
 returns-3 c = left-end _ _ _ _ (c .if3 .taken) ∙ sym (c .before .before .loop .inv .2)
@@ -55,7 +70,9 @@ element-write-found-2 : tie.Need-element-write-found-2 Inv-loop μ-loop
 element-write-found-2 c = search needs
 
 returns-4 : tie.Need-returns-4 Inv-loop μ-loop
-returns-4 c = left-last _ _ _ _ (c .before .loop-test .left) (c .before .before .loop .inv .0) (c .if3 .left) (c .before .before .loop .inv .1) ∙ sym (c .before .before .loop .inv .2)
+returns-4 c =
+    let inv = c .before .before .loop .inv in
+    left-last _ _ _ _ (c .before .loop-test .left) (inv .0) (c .if3 .left) (inv .1) ∙ sym (inv .2)
 
 pub numbers-spec : {M : Type 1} → statement M
 numbers-spec =

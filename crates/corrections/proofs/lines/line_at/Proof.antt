@@ -31,13 +31,20 @@ reach-change-requires : tie.Need-reach-change-requires
 reach-change-requires c κs = search needs
 
 returns-3 : tie.Need-returns-3
-returns-3 c = line-taken _ _ _ (c .before .before .before .before .before .reach-heading .ensures) (c .before .before .before .before .heading-width .ensures) (c .before .before .before .if1 .left) (c .before .before .if2 .left) (c .before .reach-change .ensures) (c .if3 .taken)
+returns-3 c =
+    let width = c .before .before .before .before in
+    line-taken _ _ _ (width .before .reach-heading .ensures) (width .heading-width .ensures) (c .before .before .before .if1 .left)
+    (c .before .before .if2 .left) (c .before .reach-change .ensures) (c .if3 .taken)
 
 reach-change-requires-2 : tie.Need-reach-change-requires-2
 reach-change-requires-2 c κs = search needs
 
 returns-4 : tie.Need-returns-4
-returns-4 c = line-put _ _ _ (c .before .before .before .before .before .before .before .reach-heading .ensures) (c .before .before .before .before .before .before .heading-width .ensures) (c .before .before .before .before .before .if1 .left) (c .before .before .before .before .if2 .left) (c .before .before .before .reach-change .ensures) (c .before .before .if3 .left) (c .before .reach-change2 .ensures) (c .if4 .taken)
+returns-4 c =
+    let taken = c .before .before .before in
+    let width = taken .before .before .before in
+    line-put _ _ _ (width .before .reach-heading .ensures) (width .heading-width .ensures) (taken .before .before .if1 .left)
+    (taken .before .if2 .left) (taken .reach-change .ensures) (c .before .before .if3 .left) (c .before .reach-change2 .ensures) (c .if4 .taken)
 
 greater-requires : tie.Need-greater-requires
 greater-requires c κs = search needs
@@ -46,10 +53,27 @@ greater-requires-2 : tie.Need-greater-requires-2
 greater-requires-2 c κs = search needs
 
 add-t11 : tie.Need-add-t11
-add-t11 c = omega (arith, c .greater2 .ensures, c .before .greater .ensures, heading-at-most _ _ _ (c .before .before .before .before .before .before .before .before .before .reach-heading .ensures), change-at-most _ _ 68 (c .before .before .before .before .before .reach-change .ensures), change-at-most _ _ 65 (c .before .before .before .reach-change2 .ensures))
+add-t11 c =
+    let put = c .before .before .before in
+    let taken = put .before .before in
+    let headed = taken .before .before .before .before in
+    omega (
+      arith,
+      c .greater2 .ensures,
+      c .before .greater .ensures,
+      heading-at-most _ _ _ (headed .reach-heading .ensures),
+      change-at-most _ _ 68 (taken .reach-change .ensures),
+      change-at-most _ _ 65 (put .reach-change2 .ensures),
+    )
 
 returns-5 : tie.Need-returns-5
-returns-5 c = line-stopped _ _ _ (c .before .before .before .before .before .before .before .before .before .reach-heading .ensures) (c .before .before .before .before .before .before .before .before .heading-width .ensures) (c .before .before .before .before .before .before .before .if1 .left) (c .before .before .before .before .before .before .if2 .left) (c .before .before .before .before .before .reach-change .ensures) (c .before .before .before .before .if3 .left) (c .before .before .before .reach-change2 .ensures) (c .before .before .if4 .left) (c .before .greater .ensures) (c .greater2 .ensures)
+returns-5 c =
+    let put = c .before .before .before in
+    let taken = put .before .before in
+    let width = taken .before .before .before in
+    line-stopped _ _ _ (width .before .reach-heading .ensures) (width .heading-width .ensures) (taken .before .before .if1 .left)
+    (taken .before .if2 .left) (taken .reach-change .ensures) (put .before .if3 .left) (put .reach-change2 .ensures)
+    (c .before .before .if4 .left) (c .before .greater .ensures) (c .greater2 .ensures)
 
 pub line-at-spec : {M : Type 1} → statement M
 line-at-spec =
