@@ -5,3 +5,4 @@ mod ApplyLaws
 mod JudgeLaws
 mod CorrectLaws
 mod RunLaws
+pub mod Procedures
