@@ -12,9 +12,10 @@
 
 use crate::cases::{each_terminator, Dice, CONTINUATION, LEG};
 use crate::file::{check, LINE};
+use crate::Stored;
 
-/// The stored files, by their paths from this package, and what they hold.
-pub fn stored_files() -> [(&'static str, Vec<u8>); 3] {
+/// The stored set of files and the answers.
+pub fn stored_files() -> [Stored; 3] {
     let set = all();
     [
         ("../crates/vectors_file/data/bases.bin", bases().concat()),

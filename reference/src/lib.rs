@@ -1,5 +1,6 @@
-//! A second, separate reading of the record rules: it judges one procedure
-//! record (PD, PE, PF), takes it apart and puts it together again.
+//! A second, separate reading of the rules: it judges one procedure record (PD,
+//! PE, PF), takes it apart and puts it together again, checks files, and reads
+//! logs and wanted lists.
 //!
 //! - `layout`: the columns of both kinds of record and what each may hold
 //! - `judge`: the three stages a record goes through (3, 4, 5)
@@ -29,13 +30,17 @@ pub use judge::judge;
 pub use parts::{Continuation, Frame, Leg, Parts};
 pub use record::{read, write};
 
-/// The stored files, by their paths from this package, and what they hold.
-pub fn stored_files() -> [(&'static str, Vec<u8>); 2] {
+/// A stored file, by its path from this package, and what it holds.
+pub type Stored = (&'static str, Vec<u8>);
+
+/// All stored files: of records, of files, of logs and lists.
+pub fn stored_files() -> Vec<Stored> {
     let set = cases::all();
-    [
+    let records = [
         ("../crates/vectors_record/data/records.bin", cases::stored(&set)),
         ("../crates/vectors_record/stdout", report::all(&set).into_bytes()),
-    ]
+    ];
+    records.into_iter().chain(files::stored_files()).chain(logs::stored_files()).collect()
 }
 
 /// Why a record was not read or written. Columns count from 1; the place is 1

@@ -15,6 +15,7 @@
 use crate::cases::Dice;
 use crate::log::read;
 use crate::wanted::numbers;
+use crate::Stored;
 
 /// A log beside some frozen records, or a list of wanted numbers.
 #[derive(Clone, Debug, PartialEq, Eq)]
@@ -23,8 +24,8 @@ pub enum Text {
     Wanted(Vec<u8>),
 }
 
-/// The stored files, by their paths from this package, and what they hold.
-pub fn stored_files() -> [(&'static str, Vec<u8>); 2] {
+/// The stored set of logs and lists, and the answers.
+pub fn stored_files() -> [Stored; 2] {
     let set = all();
     [
         ("../crates/vectors_log/data/texts.bin", instructions(&set)),

@@ -4,10 +4,10 @@
 use std::path::Path;
 use std::{fs, io};
 
-use reference::{files, logs, stored_files};
+use reference::stored_files;
 
 fn main() -> io::Result<()> {
-    for (name, made) in stored_files().into_iter().chain(files::stored_files()).chain(logs::stored_files()) {
+    for (name, made) in stored_files() {
         let path = Path::new(env!("CARGO_MANIFEST_DIR")).join(name);
         if let Some(folder) = path.parent() {
             fs::create_dir_all(folder)?;

@@ -1,9 +1,6 @@
-//! The stored files are what the program makes, the instructions make the set,
-//! and the requirement's own cases that speak of files.
+//! The instructions make the set of files, and the requirement's own cases that speak of files.
 
 use std::collections::HashSet;
-use std::fs;
-use std::path::Path;
 
 use reference::file::check;
 use reference::{cases, files, Refusal};
@@ -17,15 +14,6 @@ fn leg(sequence: &str, terminator: &str) -> Vec<u8> {
 
 fn refused(file: &[u8], number: u8, place: usize, column: usize) {
     assert_eq!(check(file), Err(Refusal { number, place, column }));
-}
-
-#[test]
-fn the_stored_files_are_what_the_program_makes() {
-    for (name, made) in files::stored_files() {
-        let path = Path::new(env!("CARGO_MANIFEST_DIR")).join(name);
-        let stored = fs::read(path).unwrap_or_default();
-        assert!(stored == made, "{name} is not what the program makes: run `cargo run --offline`");
-    }
 }
 
 #[test]

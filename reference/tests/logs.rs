@@ -1,9 +1,7 @@
-//! The stored logs and lists are what the program makes, the instructions make
-//! the set, and the cases on either side of each rule.
+//! The instructions make the set of logs and lists, and the cases on either side
+//! of each rule.
 
 use std::collections::HashSet;
-use std::fs;
-use std::path::Path;
 
 use reference::log::{read, Change};
 use reference::logs::{all, made_by, stored_files, Text};
@@ -20,15 +18,6 @@ fn change(letter: char, length: usize) -> String {
 
 fn headings(count: usize) -> String {
     (1..=count).map(|number| format!("C\t{number}\n")).collect()
-}
-
-#[test]
-fn the_stored_files_are_what_the_program_makes() {
-    for (name, made) in stored_files() {
-        let path = Path::new(env!("CARGO_MANIFEST_DIR")).join(name);
-        let stored = fs::read(path).unwrap_or_default();
-        assert!(stored == made, "{name} is not what the program makes: run `cargo run --offline`");
-    }
 }
 
 #[test]

@@ -1,4 +1,5 @@
-//! The stored files are what the program makes, and the set keeps to its size.
+//! All stored files are what the program makes, and the set of records keeps to
+//! its size.
 
 use std::fs;
 use std::path::Path;
