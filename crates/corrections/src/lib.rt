@@ -48,8 +48,8 @@ fn empty() -> Index
     }
 }
 
-// What is left of it on a refusal: nothing but zeros.
-fn refused_by(refusal: Refusal) -> Index
+// The index of a log that is refused: nothing but zeros beside the refusal.
+pub fn refused_by(refusal: Refusal) -> Index
     ensures { λ r. ⌜ r ≡ indexOf (refused refusal) ⌝ }
 {
     Index {

@@ -5,4 +5,7 @@ mod ApplyLaws
 mod JudgeLaws
 mod CorrectLaws
 mod RunLaws
+mod OpeningLaws
+mod MarkLaws
+mod RelianceLaws
 pub mod Procedures

@@ -1,5 +1,4 @@
--- The format of this product, for the theory of selection: records of bytes, placed by columns 1-25, 27-29 and 39, with columns 1-25 for a
--- route, and a route accepted where its records alone are. A list of records is accepted in that theory exactly when it is judged so.
+-- A list of records is an accepted file of the theory of selection, for the format of this product, exactly when it is judged so.
 -- Assumes nothing.
 use mathlib.Core.Path.{_≡_, refl, sym, ap, _∙_}
 use mathlib.Core.Bool.{Bool, true, false, cond, false≢true}
@@ -17,30 +16,12 @@ use Rattle.refusals.specs.declared.Verdict.{Verdict}
 use Rattle.refusals.specs.declared.Verdict.the-variants.{Accepted, Refused}
 use Rattle.routes.specs.Places.{keyOf, placeOf, ofRoute, Rising, Every, Before}
 use Rattle.routes.specs.Walk.{walked}
-use Rattle.routes.proofs.Routes.{no-record, by-routes}
+use Rattle.routes.proofs.Routes.{by-routes}
 use Rattle.routes.proofs.InTurnLaws.{never}
 use Rattle.history.specs.Format as H
-use Rattle.history.specs.Format.{Format, File, own}
-use Rattle.history.specs.Bytes.{ofBytes, same?}
-
-pub isAccepted : Verdict → Bool
-isAccepted Accepted = true
-isAccepted (Refused r) = false
-
--- whether records in sequence are accepted
-pub accepts : List (List ℕ) → Bool
-accepts rs = isAccepted (walked rs)
-
-pub none-accepted : accepts [] ≡ true
-unfolding accepts isAccepted
-none-accepted = ap isAccepted no-record
-
-pub key-by-place : (r s : List ℕ) → placeOf r ≡ placeOf s → keyOf r ≡ keyOf s
-unfolding placeOf
-key-by-place r s e = sym (take-at (keyOf r) _ 25 (length-part 25 0 r)) ∙ ap (take 25) e ∙ take-at (keyOf s) _ 25 (length-part 25 0 s)
-
-abbrev pub procedures : Format
-procedures = ofBytes placeOf keyOf key-by-place accepts none-accepted
+use Rattle.history.specs.Format.{own}
+use Rattle.history.specs.Bytes.{same?}
+use Rattle.selection.specs.Procedures.{isAccepted, accepts, procedures}
 
 -- the records of a route are the same in both
 pub own-route : (k : List ℕ) (rs : List (List ℕ)) → own procedures k rs ≡ ofRoute k rs
@@ -70,7 +51,7 @@ rising-back (r ∷ rs) h = (above (placeOf r) rs (h .0), rising-back rs (h .1))
     above p (r ∷ rs) h = (h .0, above p rs (h .1))
 
 accepts-iff : (rs : List (List ℕ)) → (accepts rs ≡ true) ↔ (walked rs ≡ Accepted)
-unfolding accepts isAccepted
+unfolding accepts
 accepts-iff rs = (by (walked rs), λ e. ap isAccepted e)
   where
     by : (v : Verdict) → isAccepted v ≡ true → v ≡ Accepted

@@ -20,7 +20,8 @@ use Rattle.routes.specs.Sources.{inUse}
 use Rattle.routes.specs.declared.Sources.{Sources}
 use Rattle.selection.specs.Apply.{entryAt, entriesFrom}
 use Rattle.selection.specs.Correct.{Outcome, stopped, reached, corrected, Comes, refused, stands}
-use Rattle.selection.specs.Run.{leading, onward, ran}
+use Rattle.history.specs.Sets.{Numbers}
+use Rattle.selection.specs.Run.{leading, byCorrection, onward, ran}
 use Rattle.selection.specs.declared.correct.Corrected.{Corrected}
 
 -- ---- the lines of an index, cut in two
@@ -86,37 +87,65 @@ came-stands : (c : Corrected) (o : Outcome) → Comes c o → c .verdict ≡ Acc
 came-stands c _ (refused e) q = absurd (never (sym e ∙ q))
 came-stands c _ (stands e n x) q = (ap reached (sym x), n)
 
-module _ (f l : List ℕ) (index : Index) (n total k : ℕ) (whole : Outcome) (now : Sources)
-    (w : whole ≡ ran f l (n + 1) (total - n) (entriesFrom index k (index .count - k)) (inUse now)) where
+-- ---- one correction, if it is marked
+
+module _ (c : Corrected) (o : Outcome) where
+  pub when-marked : (b : Bool) (p : Outcome) → b ≡ true → Comes c o → Comes c (cond b o p)
+  when-marked b p e g = rw e g
+
+  pub when-not : (b : Bool) (state : Sources) → b ≡ false → c .verdict ≡ Accepted → c .state ≡ state → state .count ≤ 480 → Comes c (cond b o (reached (inUse state)))
+  when-not b state e v s n = rw e (stands v (subst (λ (t : Sources). t .count ≤ 480) (sym s) n) (ap inUse s))
+
+-- ---- all of them
+
+-- the corrections from number n + 1 on, of which so many are left, with the lines from k on
+abbrev pub left : Index → (n total k : ℕ) → List (List Entry)
+left index n total k = byCorrection (n + 1) (total - n) (entriesFrom index k (index .count - k))
+
+left-none : (index : Index) (n total k : ℕ) → total ≤ n → left index n total k ≡ []
+unfolding byCorrection
+left-none index n total k h = let z : total - n ≡ 0 = omega arith in rw z
+
+left-next : (index : Index) (n total k : ℕ) {to : ℕ} → n < total → k ≤ index .count → to ≡ k + leading (n + 1) (entriesFrom index k (index .count - k))
+    → left index n total k ≡ entriesFrom index k (to - k) ∷ left index (n + 1) total to
+unfolding byCorrection
+left-next index n total k {to} h b t =
+    let m = leading (n + 1) (entriesFrom index k (index .count - k)) in
+    let v = leading-within (n + 1) index k (index .count - k) in
+    let p : m ≡ to - k = omega (arith, t) in
+    let q : entriesFrom index (k + m) (index .count - k - m) ≡ entriesFrom index to (index .count - to) =
+    ap₂ (entriesFrom index) (sym t) (let z : index .count - k - m ≡ index .count - to = omega (arith, t) in z) in
+    rw (one-less total n h)
+    (ap₂ (λ (es : List Entry) (rest : List Entry). es ∷ byCorrection (n + 1 + 1) (total - (n + 1)) rest)
+    (take-entries index k m (index .count - k) v ∙ ap (entriesFrom index k) p)
+    (drop-entries index k m (index .count - k) v ∙ q))
+
+module _ (f l : List ℕ) (T : Numbers) (index : Index) (n total k : ℕ) (whole : Outcome) (now : Sources)
+    (w : whole ≡ ran f l T (n + 1) (left index n total k) (inUse now)) where
   pub run-ends : total ≤ n → now .count ≤ 480 → (c : Corrected) → c .verdict ≡ Accepted → c .state ≡ now → Comes c whole
   unfolding ran
   run-ends h m c v s =
-      let z : total - n ≡ 0 = omega arith in
-      let y : whole ≡ reached (inUse now) = w ∙ rw z in
+      let y : whole ≡ reached (inUse now) = w ∙ rw (left-none index n total k h) in
       subst (Comes c) (sym y) (stands v (subst (λ (t : Sources). t .count ≤ 480) (sym s) m) (ap inUse s))
 
-  module _ (h : n < total) {to : ℕ} (t : to ≡ k + leading (n + 1) (entriesFrom index k (index .count - k))) (b : k ≤ index .count) (next : Corrected)
-      (g : Comes next (corrected f l (n + 1) (entriesFrom index k (to - k)) (inUse now))) where
-    turn : whole ≡ onward (corrected f l (n + 1) (entriesFrom index k (to - k)) (inUse now)) (ran f l (n + 1 + 1) (total - (n + 1)) (entriesFrom index to (index .count - to)))
-    unfolding ran
-    turn =
-        let m = leading (n + 1) (entriesFrom index k (index .count - k)) in
-        let v = leading-within (n + 1) index k (index .count - k) in
-        let p : m ≡ to - k = omega (arith, t) in
-        let q : entriesFrom index (k + m) (index .count - k - m) ≡ entriesFrom index to (index .count - to) =
-        ap₂ (entriesFrom index) (sym t) (let z : index .count - k - m ≡ index .count - to = omega (arith, t) in z) in
-        w ∙ rw (one-less total n h)
-        (ap₂ (λ (es : List Entry) (rest : List Entry). onward (corrected f l (n + 1) es (inUse now)) (ran f l (n + 1 + 1) (total - (n + 1)) rest))
-        (take-entries index k m (index .count - k) v ∙ ap (entriesFrom index k) p)
-        (drop-entries index k m (index .count - k) v ∙ q))
+  module _ (h : n < total) {to : ℕ} (t : to ≡ k + leading (n + 1) (entriesFrom index k (index .count - k))) (b : k ≤ index .count) {here : Bool} (m : here ≡ T (n + 1)) (next : Corrected)
+      (g : Comes next (cond here (corrected f l (n + 1) (entriesFrom index k (to - k)) (inUse now)) (reached (inUse now)))) where
+    one : Outcome
+    one = cond here (corrected f l (n + 1) (entriesFrom index k (to - k)) (inUse now)) (reached (inUse now))
+
+    turn : whole ≡ onward one (ran f l T (n + 1 + 1) (left index (n + 1) total to))
+    unfolding ran one
+    turn = w ∙ rw (left-next index n total k h b t, m)
 
     pub run-stops : {r : Refusal} → next .verdict ≡ Refused r → (c : Corrected) → c .verdict ≡ Refused r → Comes c whole
-    run-stops e c v = subst (Comes c) (sym (turn ∙ ap (λ (o : Outcome). onward o (ran f l (n + 1 + 1) (total - (n + 1)) (entriesFrom index to (index .count - to)))) (came-refused next _ g e))) (refused v)
+    unfolding one
+    run-stops e c v = subst (Comes c) (sym (turn ∙ ap (λ (o : Outcome). onward o (ran f l T (n + 1 + 1) (left index (n + 1) total to))) (came-refused next _ g e))) (refused v)
 
-    pub run-goes-on : next .verdict ≡ Accepted → (next .state .count ≤ 480) × (whole ≡ ran f l (n + 1 + 1) (total - (n + 1)) (entriesFrom index to (index .count - to)) (inUse (next .state)))
+    pub run-goes-on : next .verdict ≡ Accepted → (next .state .count ≤ 480) × (whole ≡ ran f l T (n + 1 + 1) (left index (n + 1) total to) (inUse (next .state)))
+    unfolding one
     run-goes-on e =
         let s = came-stands next _ g e in
-        (s .1, turn ∙ ap (λ (o : Outcome). onward o (ran f l (n + 1 + 1) (total - (n + 1)) (entriesFrom index to (index .count - to)))) (s .0))
+        (s .1, turn ∙ ap (λ (o : Outcome). onward o (ran f l T (n + 1 + 1) (left index (n + 1) total to))) (s .0))
 
-pub run-starts : (f l : List ℕ) (index : Index) (total count : ℕ) (xs : List ℕ) → ran f l 1 total (entriesFrom index 0 count) xs ≡ ran f l 1 (total - 0) (entriesFrom index 0 (count - 0)) xs
-run-starts f l index total count xs = rw (sub-zero, sub-zero)
+pub run-starts : (f l : List ℕ) (T : Numbers) (index : Index) (total : ℕ) (xs : List ℕ) → ran f l T 1 (byCorrection 1 total (entriesFrom index 0 (index .count))) xs ≡ ran f l T 1 (left index 0 total 0) xs
+run-starts f l T index total xs = rw (sub-zero, sub-zero)

@@ -3,3 +3,6 @@ pub mod State
 pub mod Apply
 pub mod Correct
 pub mod Run
+pub mod Procedures
+pub mod Reliance
+pub mod Pick

@@ -4,7 +4,8 @@ use Prim.Native.Nat.{ℕ, zero, suc, _+_}
 use mathlib.Core.Bool.{cond}
 use mathlib.Core.List.{List, [], _∷_}
 use lib.Dec.{eqb}
-use lib.ListN.{take, drop}
+use lib.ListN.{getD, take, drop}
+use Rattle.history.specs.Sets.{Numbers}
 use Rattle.corrections.specs.Reading.{Entry}
 use Rattle.selection.specs.Correct.{Outcome, stopped, reached, corrected}
 
@@ -13,12 +14,21 @@ unfoldable pub leading : ℕ → List Entry → ℕ
 leading n [] = 0
 leading n (e ∷ es) = cond (eqb (e .correction) n) (suc (leading n es)) 0
 
+-- the lines of m corrections from number n on, each correction's by themselves
+unfoldable pub byCorrection : (n m : ℕ) → List Entry → List (List Entry)
+byCorrection n zero es = []
+byCorrection n (suc m) es = take (leading n es) es ∷ byCorrection (n + 1) m (drop (leading n es) es)
+
 -- from where one outcome leaves the records, or no further
 abbrev pub onward : Outcome → (List ℕ → Outcome) → Outcome
 onward (stopped r) next = stopped r
 onward (reached xs) next = next xs
 
--- m corrections from number n on, with the lines that are left, over the records as they stand
-unfoldable pub ran : (frozen log : List ℕ) (n m : ℕ) → List Entry → List ℕ → Outcome
-ran frozen log n zero es xs = reached xs
-ran frozen log n (suc m) es xs = onward (corrected frozen log n (take (leading n es) es) xs) (ran frozen log (n + 1) m (drop (leading n es) es))
+-- corrections from number n on, those of a set alone, over the records as they stand
+unfoldable pub ran : (frozen log : List ℕ) → Numbers → (n : ℕ) → List (List Entry) → List ℕ → Outcome
+ran frozen log T n [] xs = reached xs
+ran frozen log T n (es ∷ ess) xs = onward (cond (T n) (corrected frozen log n es xs) (reached xs)) (ran frozen log T (n + 1) ess)
+
+-- the numbers that a row of marks has, one byte for each number from 0 on
+unfoldable pub marked : List ℕ → Numbers
+marked marks n = eqb (getD marks n 0) 1

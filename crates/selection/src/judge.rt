@@ -19,7 +19,7 @@ use routes::record_at;
 use slices::same;
 
 // Whether the records of two sources are of one route.
-fn same_route<'a>(frozen: &'a [u8], log: &'a [u8], a: u32, b: u32) -> bool
+pub(crate) fn same_route<'a>(frozen: &'a [u8], log: &'a [u8], a: u32, b: u32) -> bool
     ensures { λ r. ⌜ r ≡ equal (keyOf (recordAt (now (frozen .entry)) (now (log .entry)) a)) (keyOf (recordAt (now (frozen .entry)) (now (log .entry)) b)) ⌝ }
 {
     let x = record_at(frozen, log, a);

@@ -1,0 +1,134 @@
+-- The pick: what is refused and in which order, the corrections taken, and the records of the new file by their sources.
+-- Assumes nothing.
+use Prim.Native.Nat.{ℕ, zero, suc, _+_, _-_}
+use mathlib.Core.Bool.{true, cond, _||_}
+use mathlib.Core.List.{List, [], _∷_, _++_, map}
+use lib.Dec.{eqb, ltb}
+use lib.ListN.{length, getD, replicate}
+use Rattle.slices.specs.Part.{member}
+use Rattle.refusals.specs.Table.{logTooLong, notInLog, bufferTooShort}
+use Rattle.refusals.specs.declared.Refusal.{Refusal}
+use Rattle.refusals.specs.declared.Verdict.{Verdict}
+use Rattle.refusals.specs.declared.Verdict.the-variants.{Accepted, Refused}
+use Rattle.history.specs.Sets.{Numbers, closure}
+use Rattle.corrections.specs.Reading.{Entry, Reading, refused, said, readLog}
+use Rattle.routes.specs.Files.{fileVerdict}
+use Rattle.routes.specs.InTurn.{inTurn}
+use Rattle.routes.specs.Legal.{lines}
+use Rattle.routes.specs.Sources.{recordAt, records, sourcesOf, inUse}
+use Rattle.routes.specs.declared.Sources.{Sources}
+use Rattle.selection.specs.Correct.{Outcome, stopped, reached}
+use Rattle.selection.specs.Run.{byCorrection, ran}
+use Rattle.selection.specs.Procedures.{procedures, operations}
+use Rattle.selection.specs.declared.Picked.{Picked}
+
+-- ---- the steps before anything is applied
+
+-- "13 for length"
+unfoldable pub lengthStage : List ℕ → Verdict
+lengthStage log = cond (ltb 60000 (length log)) (Refused logTooLong) Accepted
+
+abbrev pub ifAccepted : Verdict → Reading → Reading
+ifAccepted Accepted reading = reading
+ifAccepted (Refused r) reading = refused r
+
+-- "13 for length, 2, the file, the log line by line"
+unfoldable pub opened : (frozen log : List ℕ) → Reading
+opened frozen log = ifAccepted (inTurn (lengthStage log ∷ fileVerdict frozen ∷ [])) (readLog log (length (records frozen)))
+
+-- 12: "wanted number 0 or past the last correction"; the first of the numbers has an index
+unfoldable pub wantedStage : (corrections index : ℕ) → List ℕ → Verdict
+wantedStage n i [] = Accepted
+wantedStage n i (w ∷ ws) = cond (eqb w 0 || ltb n w) (Refused (notInLog i)) (wantedStage n (i + 1) ws)
+
+-- ---- the corrections taken
+
+-- every number; the wanted ones
+abbrev pub everything : Numbers
+everything n = true
+
+unfoldable pub wants : List ℕ → Numbers
+wants ws n = member n ws
+
+-- the members of a set among m numbers from n on
+unfoldable pub membersFrom : Numbers → (n m : ℕ) → List ℕ
+membersFrom T n zero = []
+membersFrom T n (suc m) = cond (T n) (n ∷ membersFrom T (n + 1) m) (membersFrom T (n + 1) m)
+
+-- ---- the pick
+
+-- a refusal; or the numbers taken, and where the records of the new file lie
+pub data Pick : Type 0 where
+  refusedBy : Refusal → Pick
+  picked : (taken sources : List ℕ) → Pick
+
+abbrev pub judgedFirst : Verdict → Pick → Pick
+judgedFirst Accepted p = p
+judgedFirst (Refused r) p = refusedBy r
+
+abbrev pub ranFirst : Outcome → (List ℕ → Pick) → Pick
+ranFirst (stopped r) next = refusedBy r
+ranFirst (reached xs) next = next xs
+
+abbrev pub outcomeVerdict : Outcome → Verdict
+outcomeVerdict (stopped r) = Refused r
+outcomeVerdict (reached xs) = Accepted
+
+module _ (frozen log : List ℕ) where
+  -- the corrections of a set over the frozen records, where the log has n corrections, and the lines es
+  unfoldable pub carried : Numbers → (n : ℕ) → List Entry → Outcome
+  carried T n es = ran frozen log T 1 (byCorrection 1 n es) (inUse (sourcesOf frozen))
+
+  -- the wanted corrections, and those that they rely on
+  unfoldable pub takenOf : (n : ℕ) → List Entry → (wanted : List ℕ) → Numbers
+  takenOf n es ws = closure procedures (operations frozen log (byCorrection 1 n es)) (wants ws)
+
+  -- the whole log, "then correction by correction 10, 11"
+  abbrev pub logJudged : Reading → Verdict
+  logJudged (refused r) = Refused r
+  logJudged (said n es) = outcomeVerdict (carried everything n es)
+
+  -- "checking one keeps this order without 14 and 12"
+  unfoldable pub logVerdict : Verdict
+  logVerdict = logJudged (opened frozen log)
+
+  -- 12, then the whole log; then those taken alone, which are never refused
+  abbrev pub pickFrom : (wanted : List ℕ) → Reading → Pick
+  pickFrom ws (refused r) = refusedBy r
+  pickFrom ws (said n es) =
+      judgedFirst (wantedStage n 1 ws)
+      (ranFirst (carried everything n es)
+      (λ _. ranFirst (carried (takenOf n es ws) n es) (picked (membersFrom (takenOf n es ws) 1 n))))
+
+  unfoldable pub pickOf : (wanted : List ℕ) → Pick
+  pickOf ws = pickFrom ws (opened frozen log)
+
+  -- the new file's records, and its bytes
+  unfoldable pub newRecords : Pick → List (List ℕ)
+  newRecords (refusedBy r) = []
+  newRecords (picked taken xs) = map (recordAt frozen log) xs
+
+  unfoldable pub newBytes : Pick → List ℕ
+  newBytes p = lines (newRecords p)
+
+  -- "For line 0, a line past the end, or a refused pick, it's an empty part."
+  unfoldable pub lineIn : Sources → ℕ → List ℕ
+  lineIn s zero = []
+  lineIn s (suc n) = getD (map (recordAt frozen log) (inUse s)) n []
+
+  -- the pick where so many bytes are lent for the file: 14 first
+  unfoldable pub filePick : (lent : ℕ) → (wanted : List ℕ) → Pick
+  filePick lent ws = cond (ltb lent 63840) (refusedBy bufferTooShort) (pickOf ws)
+
+-- ---- as the code gives it: zeros past the counts, and nothing but zeros on a refusal
+
+unfoldable pub sourcesFor : List ℕ → Sources
+sourcesFor xs = record { count = length xs; at = xs ++ replicate (480 - length xs) 0 }
+
+unfoldable pub pickedAs : Pick → Picked
+pickedAs (refusedBy r) = record { verdict = Refused r; count = 0; taken = replicate 200 0; records = sourcesFor [] }
+pickedAs (picked ns xs) = record { verdict = Accepted; count = length ns; taken = ns ++ replicate (200 - length ns) 0; records = sourcesFor xs }
+
+-- some bytes, and zeros past them
+unfoldable pub padded : ℕ → List ℕ → List ℕ
+padded n bs = bs ++ replicate (n - length bs) 0

@@ -1,0 +1,109 @@
+// Which corrections another one relies on: those wanted, and with each the last earlier correction on every route that it touches.
+// `relied_on` and `reliances` assume of their callers what the lines of an index do; the marking assumes nothing.
+//
+// Every two lines are compared once, in 25 bytes, and every correction is gone into once.
+ghost use mathlib.Core.Path.{_≡_};
+ghost use mathlib.Core.Bool.{cond};
+ghost use mathlib.Core.List.{_++_};
+ghost use Prim.Native.Nat.{_-_, _≤_, _<_};
+ghost use lib.ListN.{replicate};
+ghost use Rattle.selection.specs.Apply.{Within};
+ghost use Rattle.selection.specs.Reliance.{reliedBy, reliances, namedBy, Marked, Taken};
+use crate::judge::same_route;
+use corrections::Index;
+
+// The later of what was found and the correction of one more line, where that line counts.
+fn later(found: u32, of: u32, counts: bool) -> u32
+    ensures { λ r. ⌜ r ≡ cond counts of found ⌝ }
+{
+    if counts { of } else { found }
+}
+
+// The last correction before that of line k which has a line on the same route; 0 where there is none.
+fn relied_on<'a>(frozen: &'a [u8], log: &'a [u8], index: Index, k: usize) -> u32
+    requires { ⌜ (k < 444) × Within index ⌝ }
+    ensures { λ r. ⌜ r ≡ reliedBy (now (frozen .entry)) (now (log .entry)) index k ⌝ }
+{
+    let at = index.at[k];
+    let n = index.correction[k];
+    let mut found = 0;
+    let mut j = 0;
+    while j < k {
+        let other = index.at[j];
+        let of = index.correction[j];
+        let same = same_route(frozen, log, 1000000 + at, 1000000 + other);
+        found = later(found, of, (of < n) & same);
+        j += 1;
+    }
+    found
+}
+
+// What each line relies on, in the order of the index; zeros past its lines.
+pub(crate) fn reliances<'a>(frozen: &'a [u8], log: &'a [u8], index: Index) -> [u32; 444]
+    requires { ⌜ (index .count ≤ 444) × Within index ⌝ }
+    ensures { λ r. ⌜ r ≡ reliances (now (frozen .entry)) (now (log .entry)) index 0 (index .count) ++ replicate (444 - index .count) 0 ⌝ }
+{
+    let count = index.count;
+    let mut relied = [0u32; 444];
+    let mut k = 0;
+    while k < count {
+        let n = relied_on(frozen, log, index, k);
+        relied[k] = n;
+        k += 1;
+    }
+    relied
+}
+
+// The correction that line k names, if that is a line of correction c, and it is smaller; else 0.
+fn named<'a>(of: &'a [u32], relied: &'a [u32], c: usize, k: usize) -> usize
+    ensures { λ r. ⌜ r ≡ namedBy (now (of .entry)) (now (relied .entry)) c k ⌝ }
+{
+    if of.len() <= k {
+        return 0;
+    }
+    if relied.len() <= k {
+        return 0;
+    }
+    let owner = of[k] as usize;
+    let p = relied[k] as usize;
+    if (owner == c) & (p < c) { p } else { 0 }
+}
+
+// Marks correction c and all that it relies on, by recursion to smaller numbers. The mark of c comes last, so that at each call what a
+// marked correction relies on is marked already, and a marked correction need not be gone into again.
+fn mark<'a>(of: &'a [u32], relied: &'a [u32], marks: &mut [u8], c: usize)
+    ensures { λ _. ⌜ Marked (now (of .entry)) (now (relied .entry)) (now (marks .entry)) (now (marks .exit)) c ⌝ }
+{
+    if c == 0 {
+        return;
+    }
+    if marks.len() <= c {
+        return;
+    }
+    if marks[c] == 1 {
+        return;
+    }
+    let mut k = 0;
+    while k < of.len() {
+        let p = named(of, relied, c, k);
+        if 0 < p {
+            mark(of, relied, marks, p);
+        }
+        k += 1;
+    }
+    marks[c] = 1;
+}
+
+// The marks of the wanted corrections and of all that they rely on, one byte for each number from 0 on.
+pub(crate) fn taken<'a>(of: &'a [u32], relied: &'a [u32], wanted: &[u32]) -> [u8; 201]
+    ensures { λ r. ⌜ Taken (now (of .entry)) (now (relied .entry)) (now (wanted .entry)) r ⌝ }
+{
+    let mut marks = [0u8; 201];
+    let mut i = 0;
+    while i < wanted.len() {
+        let c = wanted[i] as usize;
+        mark(of, relied, &mut marks, c);
+        i += 1;
+    }
+    marks
+}
