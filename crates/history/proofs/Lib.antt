@@ -6,7 +6,7 @@ mod Numbered
 mod Select
 mod Accept
 mod Earlier
-mod Closure
+pub mod Closure
 mod Listed
 pub mod Statements
 mod Vectors

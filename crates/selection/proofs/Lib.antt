@@ -8,4 +8,8 @@ mod RunLaws
 mod OpeningLaws
 mod MarkLaws
 mod RelianceLaws
+mod GroupLaws
+mod LastLaws
+mod IndexLaws
+mod TakenLaws
 pub mod Procedures

@@ -8,7 +8,7 @@ use native.Mathlib.Omega.{arith}
 use native.Mathlib.Nat.{sub-zero}
 use native.Mathlib.Numerals.{add-one}
 use lib.Dec.{ltb}
-use lib.ListN.{length, getD, set, replicate}
+use lib.ListN.{length, getD, set, replicate, List·getD-append}
 use lib.Seq.{sets}
 use Rattle.slices.specs.Order.{equal}
 use Rattle.slices.proofs.PartLaws.{one-less}
@@ -68,3 +68,17 @@ module _ (f l : List ℕ) (index : Index) (count : ℕ) where
       → whole ≡ relianceFrom (set relied k n) (k + 1)
   unfolding relianceFrom reliances
   reliance-next relied k w h e = w ∙ rw (one-less count k h, ← e, add-one)
+
+-- ---- what was found of one line
+
+at-line : (f l : List ℕ) (index : Index) (j n k : ℕ) → k < n → getD (reliances f l index j n) k 0 ≡ reliedBy f l index (j + k)
+unfolding reliances
+at-line f l index j zero k h = absurd (omega arith)
+at-line f l index j (suc n) zero h = let e : j + 0 ≡ j = omega arith in rw e
+at-line f l index j (suc n) (suc k) h = let e : j + suc k ≡ j + 1 + k = omega arith in rw e (at-line f l index (j + 1) n k (omega arith))
+
+pub reliance-at : (f l : List ℕ) (index : Index) (count k : ℕ) (rest : List ℕ) → k < count → getD (reliances f l index 0 count ++ rest) k 0 ≡ reliedBy f l index k
+reliance-at f l index count k rest h =
+    let e : 0 + k ≡ k = omega arith in
+    List·getD-append (reliances f l index 0 count) rest 0 k (omega (arith, reliances-length f l index count 0 count))
+    ∙ at-line f l index 0 count k h ∙ ap (reliedBy f l index) e
