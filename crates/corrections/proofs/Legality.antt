@@ -12,7 +12,7 @@ use Rattle.corrections.proofs.Turns.{not-accepted}
 use Rattle.corrections.proofs.Spelling.{said-legal}
 use Rattle.corrections.proofs.TextLaws.{text-read}
 
-verdict-said : (rest : Reading) → indexOf rest .verdict ≡ Accepted → (n : ℕ) × (es : List Entry) × (rest ≡ said n es)
+pub verdict-said : (rest : Reading) → indexOf rest .verdict ≡ Accepted → (n : ℕ) × (es : List Entry) × (rest ≡ said n es)
 unfolding indexOf
 verdict-said (refused r) e = absurd (not-accepted e)
 verdict-said (said n es) e = (n, es, refl)

@@ -28,25 +28,25 @@ module _ (F : Format) where
   abbrev push : Record → Option (File F) → Option (File F)
   push x o = Option·map (λ (g : File F). x ∷ g) o
 
-  taken-here : (r x : Record) (f : File F) → r ≡ x → takenOut F r (x ∷ f) ≡ some f
+  pub taken-here : (r x : Record) (f : File F) → r ≡ x → takenOut F r (x ∷ f) ≡ some f
   unfolding takenOut
   taken-here r x f h = if-pos (same? r x) h (some f) (push x (takenOut F r f))
 
-  taken-there : (r x : Record) (f : File F) → ¬ (r ≡ x) → takenOut F r (x ∷ f) ≡ push x (takenOut F r f)
+  pub taken-there : (r x : Record) (f : File F) → ¬ (r ≡ x) → takenOut F r (x ∷ f) ≡ push x (takenOut F r f)
   unfolding takenOut
   taken-there r x f h = if-neg (same? r x) h (some f) (push x (takenOut F r f))
 
-  put-here : (r x : Record) (f : File F) → Before (place r) (place x) → putIn F r (x ∷ f) ≡ some (r ∷ x ∷ f)
+  pub put-here : (r x : Record) (f : File F) → Before (place r) (place x) → putIn F r (x ∷ f) ≡ some (r ∷ x ∷ f)
   unfolding putIn
   put-here r x f h = if-pos (before? (place r) (place x)) h _ _
 
-  put-there : (r x : Record) (f : File F) → Before (place x) (place r) → putIn F r (x ∷ f) ≡ push x (putIn F r f)
+  pub put-there : (r x : Record) (f : File F) → Before (place x) (place r) → putIn F r (x ∷ f) ≡ push x (putIn F r f)
   unfolding putIn
   put-there r x f h =
       if-neg (before? (place r) (place x)) (λ b. irreflexive _ (transitive _ _ _ h b)) _ _
       ∙ if-pos (before? (place x) (place r)) h _ _
 
-  put-full : (r x : Record) (f : File F) → ¬ Before (place r) (place x) → ¬ Before (place x) (place r) → putIn F r (x ∷ f) ≡ none
+  pub put-full : (r x : Record) (f : File F) → ¬ Before (place r) (place x) → ¬ Before (place x) (place r) → putIn F r (x ∷ f) ≡ none
   unfolding putIn
   put-full r x f h k = if-neg (before? (place r) (place x)) h _ _ ∙ if-neg (before? (place x) (place r)) k _ _
 

@@ -147,7 +147,7 @@ leading-own n [] rest a z = z
 leading-own n (e ∷ es) rest a z = rw (eq-eqb (e .correction) n (a .0), leading-own n es rest (a .1) z)
 
 -- so the lines come apart by correction as they were put together
-by-groups : (begun at : ℕ) (cs : List (List Change)) → byCorrection (begun + 1) (length cs) (entriesIn begun at cs) ≡ groups begun at cs
+pub by-groups : (begun at : ℕ) (cs : List (List Change)) → byCorrection (begun + 1) (length cs) (entriesIn begun at cs) ≡ groups begun at cs
 unfolding byCorrection entriesIn groups
 by-groups begun at [] = refl
 by-groups begun at (c ∷ cs) =

@@ -50,7 +50,7 @@ rising-back (r ∷ rs) h = (above (placeOf r) rs (h .0), rising-back rs (h .1))
     above p [] h = tt
     above p (r ∷ rs) h = (h .0, above p rs (h .1))
 
-accepts-iff : (rs : List (List ℕ)) → (accepts rs ≡ true) ↔ (walked rs ≡ Accepted)
+pub accepts-iff : (rs : List (List ℕ)) → (accepts rs ≡ true) ↔ (walked rs ≡ Accepted)
 unfolding accepts
 accepts-iff rs = (by (walked rs), λ e. ap isAccepted e)
   where

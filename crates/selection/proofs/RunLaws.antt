@@ -76,14 +76,14 @@ module _ (index : Index) (n k to : ℕ) where
 
 -- ---- one turn
 
-came-refused : (c : Corrected) (o : Outcome) → Comes c o → {r : Refusal} → c .verdict ≡ Refused r → (o ≡ stopped r)
+pub came-refused : (c : Corrected) (o : Outcome) → Comes c o → {r : Refusal} → c .verdict ≡ Refused r → (o ≡ stopped r)
 came-refused c _ (refused e) q = ap stopped (same (sym e ∙ q))
   where
     same : {r s : Refusal} → Refused r ≡ Refused s → r ≡ s
     same h = cc
 came-refused c _ (stands e n x) q = absurd (never (sym q ∙ e))
 
-came-stands : (c : Corrected) (o : Outcome) → Comes c o → c .verdict ≡ Accepted → (o ≡ reached (inUse (c .state))) × (c .state .count ≤ 480)
+pub came-stands : (c : Corrected) (o : Outcome) → Comes c o → c .verdict ≡ Accepted → (o ≡ reached (inUse (c .state))) × (c .state .count ≤ 480)
 came-stands c _ (refused e) q = absurd (never (sym e ∙ q))
 came-stands c _ (stands e n x) q = (ap reached (sym x), n)
 

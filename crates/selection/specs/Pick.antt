@@ -1,17 +1,20 @@
 -- The pick: what is refused and in which order, the corrections taken, and the records of the new file by their sources.
 -- Assumes nothing.
 use Prim.Native.Nat.{ℕ, zero, suc, _+_, _-_}
+use mathlib.Core.Path.{_≡_}
 use mathlib.Core.Bool.{true, cond, _||_}
 use mathlib.Core.List.{List, [], _∷_, _++_, map}
 use lib.Dec.{eqb, ltb}
 use lib.ListN.{length, getD, replicate}
+use lib.Seq.{sets}
 use Rattle.slices.specs.Part.{member}
 use Rattle.refusals.specs.Table.{logTooLong, notInLog, bufferTooShort}
 use Rattle.refusals.specs.declared.Refusal.{Refusal}
 use Rattle.refusals.specs.declared.Verdict.{Verdict}
 use Rattle.refusals.specs.declared.Verdict.the-variants.{Accepted, Refused}
 use Rattle.history.specs.Sets.{Numbers, closure}
-use Rattle.corrections.specs.Reading.{Entry, Reading, refused, said, readLog}
+use Rattle.corrections.specs.Reading.{Entry, Reading, refused, said, readLog, indexOf}
+use Rattle.corrections.specs.declared.Index.{Index}
 use Rattle.routes.specs.Files.{fileVerdict}
 use Rattle.routes.specs.InTurn.{inTurn}
 use Rattle.routes.specs.Legal.{lines}
@@ -21,6 +24,7 @@ use Rattle.selection.specs.Correct.{Outcome, stopped, reached}
 use Rattle.selection.specs.Run.{byCorrection, ran}
 use Rattle.selection.specs.Procedures.{procedures, operations}
 use Rattle.selection.specs.declared.Picked.{Picked}
+use Rattle.selection.specs.declared.carry.Members.{Members}
 
 -- ---- the steps before anything is applied
 
@@ -35,6 +39,14 @@ ifAccepted (Refused r) reading = refused r
 -- "13 for length, 2, the file, the log line by line"
 unfoldable pub opened : (frozen log : List ℕ) → Reading
 opened frozen log = ifAccepted (inTurn (lengthStage log ∷ fileVerdict frozen ∷ [])) (readLog log (length (records frozen)))
+
+-- an index holds what was read of a log, beside so many frozen records
+pub record Reads (log : List ℕ) (index : Index) : Type 0 where
+  pub beside : ℕ
+  pub corrections : ℕ
+  pub lines : List Entry
+  pub read : readLog log beside ≡ said corrections lines
+  pub holds : index ≡ indexOf (said corrections lines)
 
 -- 12: "wanted number 0 or past the last correction"; the first of the numbers has an index
 unfoldable pub wantedStage : (corrections index : ℕ) → List ℕ → Verdict
@@ -54,6 +66,13 @@ wants ws n = member n ws
 unfoldable pub membersFrom : Numbers → (n m : ℕ) → List ℕ
 membersFrom T n zero = []
 membersFrom T n (suc m) = cond (T n) (n ∷ membersFrom T (n + 1) m) (membersFrom T (n + 1) m)
+
+-- numbers with some more behind them, and numbers alone, with zeros past them, as the code has them
+unfoldable pub grown : Members → List ℕ → Members
+grown m ns = record { count = m .count + length ns; at = sets (m .at) (m .count) ns }
+
+unfoldable pub listed : List ℕ → Members
+listed ns = record { count = length ns; at = ns ++ replicate (200 - length ns) 0 }
 
 -- ---- the pick
 

@@ -19,6 +19,7 @@ use Rattle.history.specs.Format.{Format}
 use Rattle.history.specs.Bytes.{ofBytes}
 use Rattle.history.specs.Apply.{Op, take-out, put-in, Correction}
 use Rattle.corrections.specs.Reading.{Entry}
+use Rattle.corrections.specs.Text.{Change, takeOut, putIn, LegalLog}
 use Rattle.selection.specs.Apply.{recordOf}
 
 abbrev pub isAccepted : Verdict → Bool
@@ -47,3 +48,12 @@ module _ (frozen log : List ℕ) where
 
   unfoldable pub operations : List (List Entry) → List (Correction procedures)
   operations ess = map (map operation) ess
+
+-- what a log says of a record, in the words of the theory
+unfoldable pub opOf : Change → Op (List ℕ)
+opOf (takeOut r) = take-out r
+opOf (putIn r) = put-in r
+
+-- the corrections of a legal log
+abbrev pub logOf : {log : List ℕ} {frozen : ℕ} → LegalLog log frozen → List (Correction procedures)
+logOf l = map (map opOf) (l .corrections)

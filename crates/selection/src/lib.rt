@@ -1,5 +1,10 @@
-// Corrections carried into a frozen file: the records of a file by their sources, and the corrections of a log applied to them in order.
+// Corrections carried into a frozen file: a log checked, the corrections picked that are wanted and those that they rely on, and the new
+// file that they make. Assumes nothing of the caller: any frozen file, any log, any wanted numbers, any buffer.
+//
+// Where a log has L lines and the file, at its largest, R records, a pick costs no more than L times R comparisons of 25 bytes, and L times
+// R records judged where every correction is on one route.
 mod apply;
+mod carry;
 mod correct;
 mod judge;
 mod opening;
@@ -7,8 +12,15 @@ mod relied;
 mod run;
 mod state;
 
+ghost use mathlib.Core.Path.{_≡_};
+ghost use Rattle.selection.specs.Pick.{logVerdict, pickOf, lineIn, pickedAs};
+use carry::pick_from;
+use carry::refused_pick;
+use carry::whole;
+use opening::opening;
 use refusals::Verdict;
 use routes::Sources;
+use routes::record_at;
 
 // What a pick comes to. `count` is how many corrections are taken, `taken` their numbers in rising order, `records` where the records of the
 // new file lie; zeros past each count, and nothing but zeros on a refusal.
@@ -17,4 +29,59 @@ pub struct Picked {
     pub count: usize,
     pub taken: [u32; 200],
     pub records: Sources,
+}
+
+// Checks a log against its frozen file: 13 for the log's length, 2 and the rest of the file, the log's lines, then correction by correction
+// 10 and 11.
+pub fn check_log<'a>(frozen: &'a [u8], log: &'a [u8]) -> Verdict
+    ensures { λ r. ⌜ r ≡ logVerdict (now (frozen .entry)) (now (log .entry)) ⌝ }
+{
+    let index = opening(frozen, log);
+    let opened = index.verdict;
+    match opened {
+        Verdict::Accepted => whole(frozen, log, index),
+        Verdict::Refused(r) => Verdict::Refused(r),
+    }
+}
+
+// Picks the wanted corrections and those that they rely on, and no others: the log is checked as above, with 12 before 10 and 11.
+pub fn pick<'a>(frozen: &'a [u8], log: &'a [u8], wanted: &[u32]) -> Picked
+    ensures { λ r. ⌜ r ≡ pickedAs (pickOf (now (frozen .entry)) (now (log .entry)) (now (wanted .entry))) ⌝ }
+{
+    let index = opening(frozen, log);
+    let opened = index.verdict;
+    match opened {
+        Verdict::Accepted => pick_from(frozen, log, index, wanted),
+        Verdict::Refused(r) => refused_pick(r),
+    }
+}
+
+// The record of line n of a pick's new file, as a part of the frozen file or of the log. Empty for line 0 and for a line past the end; a
+// refused pick has no line. It takes the pick at its word: a source that lies in neither slice gives an empty part.
+pub fn line_of<'a>(frozen: &'a [u8], log: &'a [u8], picked: Picked, n: usize) -> &'a [u8]
+    ensures { λ r. ⌜ now r ≡ lineIn (now (frozen .entry)) (now (log .entry)) (picked .records) n ⌝ }
+{
+    let records = picked.records;
+    let count = records.count;
+    if n == 0 {
+        return &frozen[0..0];
+    }
+    if count < n {
+        return &frozen[0..0];
+    }
+    if 480 < n {
+        return &frozen[0..0];
+    }
+    let i = n - 1;
+    let source = records.at[i];
+    record_at(frozen, log, source)
+}
+
+// The record of line n of the new file, as a part of the frozen file or of the log. Empty for line 0, for a line past the end, and where the
+// pick is refused.
+pub fn line<'a>(frozen: &'a [u8], log: &'a [u8], wanted: &[u32], n: usize) -> &'a [u8]
+    ensures { λ r. ⌜ now r ≡ lineIn (now (frozen .entry)) (now (log .entry)) (pickedAs (pickOf (now (frozen .entry)) (now (log .entry)) (now (wanted .entry))) .records) n ⌝ }
+{
+    let picked = pick(frozen, log, wanted);
+    line_of(frozen, log, picked, n)
 }

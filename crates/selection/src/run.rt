@@ -30,7 +30,7 @@ fn lines_end(index: Index, from: usize, n: usize) -> usize
 }
 
 // Whether a number is marked: 1 stands in its byte, where the first byte is that of 0.
-fn is_marked(marks: &[u8], n: usize) -> bool
+pub(crate) fn is_marked(marks: &[u8], n: usize) -> bool
     ensures { λ r. ⌜ r ≡ marked (now (marks .entry)) n ⌝ }
 {
     slices::byte_at(marks, n) == 1

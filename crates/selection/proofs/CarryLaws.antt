@@ -1,0 +1,256 @@
+-- Laws of the steps of a pick: what was opened, the whole log, the corrections taken alone; a law for each way that a step ends.
+-- Assumes nothing.
+use mathlib.Core.Path.{_≡_, refl, sym, ap, ap₂, subst, _∙_}
+use mathlib.Core.Bool.{Bool, true, false, cond}
+use mathlib.Core.List.{List, [], _∷_, _++_}
+use Prim.Native.Nat.{ℕ, zero, suc, _+_, _-_, _≤_, _<_}
+use native.Mathlib.Omega.{arith}
+use lib.Dec.{eqb}
+use lib.ListN.{length, getD, take, replicate, getD-replicate}
+use lib.Seq.{take-all}
+use Rattle.refusals.specs.declared.Refusal.{Refusal}
+use Rattle.refusals.specs.declared.Verdict.{Verdict}
+use Rattle.refusals.specs.declared.Verdict.the-variants.{Accepted, Refused}
+use Rattle.routes.specs.Files.{fileVerdict}
+use Rattle.routes.specs.InTurn.{inTurn}
+use Rattle.routes.specs.Sources.{records, inUse, sourcesOf}
+use Rattle.routes.specs.declared.Sources.{Sources}
+use Rattle.routes.proofs.InTurnLaws.{never}
+use Rattle.history.specs.Sets.{Numbers}
+use Rattle.corrections.specs.Reading.{Entry, Reading, refused, said, readLog, indexOf}
+use Rattle.corrections.specs.declared.Index.{Index}
+use Rattle.corrections.proofs.FrontLaws.{not-said}
+use Rattle.corrections.proofs.Legality.{verdict-said}
+use Rattle.selection.specs.Apply.{Within, entriesFrom}
+use Rattle.selection.specs.Correct.{Outcome, stopped, reached, corrected, Comes, refused, stands}
+use Rattle.selection.specs.Run.{byCorrection, onward, ran, marked}
+use Rattle.selection.specs.Reliance.{reliances, Taken}
+use Rattle.selection.specs.Pick.{
+  Reads,
+  lengthStage,
+  ifAccepted,
+  opened,
+  wantedStage,
+  everything,
+  membersFrom,
+  listed,
+  Pick,
+  refusedBy,
+  picked,
+  ranFirst,
+  outcomeVerdict,
+  carried,
+  takenOf,
+  logJudged,
+  logVerdict,
+  pickFrom,
+  pickOf,
+  sourcesFor,
+  pickedAs,
+}
+use Rattle.selection.specs.declared.Picked.{Picked}
+use Rattle.selection.specs.declared.carry.Members.{Members}
+use Rattle.selection.specs.declared.correct.Corrected.{Corrected}
+use Rattle.selection.proofs.RunLaws.{came-refused, came-stands}
+use Rattle.selection.proofs.GroupLaws.{read-by-correction}
+use Rattle.selection.proofs.IndexLaws.{first-lines, read-sound}
+use Rattle.selection.proofs.TakenLaws.{taken-closure}
+
+-- ---- an index that was read
+
+module _ (log : List ℕ) (index : Index) (r : Reads log index) where
+  count-of : index .count ≡ length (r .lines)
+  unfolding indexOf
+  count-of = ap (λ (i : Index). i .count) (r .holds)
+
+  pub corrections-of : index .corrections ≡ r .corrections
+  unfolding indexOf
+  corrections-of = ap (λ (i : Index). i .corrections) (r .holds)
+
+  -- its lines are those that were read
+  pub lines-of : entriesFrom index 0 (index .count) ≡ r .lines
+  lines-of =
+      ap₂ (λ (i : Index) (n : ℕ). entriesFrom i 0 n) (r .holds) count-of
+      ∙ first-lines (r .corrections) (r .lines) (length (r .lines)) (omega arith) ∙ take-all (length (r .lines)) (r .lines) (omega arith)
+
+  pub index-few : index .count ≤ 444
+  index-few = subst (λ (i : Index). i .count ≤ 444) (sym (r .holds)) (read-sound log (r .beside) (r .corrections) (r .lines) (r .read) .few)
+
+  pub index-within : Within index
+  index-within = subst Within (sym (r .holds)) (read-sound log (r .beside) (r .corrections) (r .lines) (r .read) .within)
+
+  pub corrections-few : index .corrections ≤ 200
+  corrections-few = omega (arith, corrections-of, read-by-correction log (r .beside) (r .corrections) (r .lines) (r .read) .few)
+
+-- ---- what was opened
+
+refused-as : (o : Reading) (r : Refusal) → indexOf o .verdict ≡ Refused r → o ≡ refused r
+unfolding indexOf
+refused-as (refused s) r e = ap refused (same e)
+  where
+    same : {x y : Refusal} → Refused x ≡ Refused y → x ≡ y
+    same h = cc
+refused-as (said n es) r e = absurd (never (sym e))
+
+module _ (f l : List ℕ) (index : Index) (e : index ≡ indexOf (opened f l)) where
+  pub opened-refused : {r : Refusal} → index .verdict ≡ Refused r → opened f l ≡ refused r
+  opened-refused v = refused-as (opened f l) _ (sym (ap (λ (i : Index). i .verdict) e) ∙ v)
+
+  module _ (v : index .verdict ≡ Accepted) where
+    was-said : (n : ℕ) × (es : List Entry) × (opened f l ≡ said n es)
+    was-said = verdict-said (opened f l) (sym (ap (λ (i : Index). i .verdict) e) ∙ v)
+
+    -- it was read, and is what the index holds
+    pub opened-reads : Reads l index
+    unfolding opened
+    opened-reads = record {
+      beside = length (records f);
+      corrections = was-said .0;
+      lines = was-said .1;
+      read = by (inTurn (lengthStage l ∷ fileVerdict f ∷ [])) (was-said .2);
+      holds = e ∙ ap indexOf (was-said .2);
+    }
+      where
+        by : {n : ℕ} {es : List Entry} (x : Verdict) → ifAccepted x (readLog l (length (records f))) ≡ said n es → readLog l (length (records f)) ≡ said n es
+        by Accepted h = h
+        by (Refused r) h = absurd (not-said h)
+
+    pub opened-said : opened f l ≡ said (index .corrections) (entriesFrom index 0 (index .count))
+    unfolding was-said opened-reads
+    opened-said = was-said .2 ∙ ap₂ said (sym (corrections-of l index opened-reads)) (sym (lines-of l index opened-reads))
+
+    pub pick-opened : (w : List ℕ) {p : Picked} → p ≡ pickedAs (pickFrom f l w (said (index .corrections) (entriesFrom index 0 (index .count)))) → p ≡ pickedAs (pickOf f l w)
+    unfolding pickOf
+    pick-opened w q = q ∙ ap (λ (o : Reading). pickedAs (pickFrom f l w o)) (sym opened-said)
+
+    pub log-opened : {x : Verdict} → x ≡ outcomeVerdict (carried f l everything (index .corrections) (entriesFrom index 0 (index .count))) → x ≡ logVerdict f l
+    unfolding logVerdict
+    log-opened q = q ∙ ap (logJudged f l) (sym opened-said)
+
+  pub pick-not-opened : (w : List ℕ) {r : Refusal} {p : Picked} → index .verdict ≡ Refused r → p ≡ pickedAs (refusedBy r) → p ≡ pickedAs (pickOf f l w)
+  unfolding pickOf
+  pick-not-opened w v q = q ∙ ap (λ (o : Reading). pickedAs (pickFrom f l w o)) (sym (opened-refused v))
+
+  pub log-not-opened : {r : Refusal} → index .verdict ≡ Refused r → Refused r ≡ logVerdict f l
+  unfolding logVerdict
+  log-not-opened v = ap (logJudged f l) (sym (opened-refused v))
+
+-- ---- sets that agree on the corrections of a log
+
+by-length : (n m : ℕ) (es : List Entry) → length (byCorrection n m es) ≡ m
+unfolding byCorrection
+by-length n zero es = refl
+by-length n (suc m) es = ap suc (by-length (n + 1) m _)
+
+ran-same : (f l : List ℕ) (S T : Numbers) (n : ℕ) (ess : List (List Entry)) (xs : List ℕ) → ((i : ℕ) → i < length ess → S (n + i) ≡ T (n + i)) → ran f l S n ess xs ≡ ran f l T n ess xs
+unfolding ran
+ran-same f l S T n [] xs h = refl
+ran-same f l S T n (es ∷ ess) xs h =
+    let z : n + 0 ≡ n = omega arith in
+    let e : S n ≡ T n = subst (λ (k : ℕ). S k ≡ T k) z (h 0 (omega arith)) in
+    let rest : (ys : List ℕ) → ran f l S (n + 1) ess ys ≡ ran f l T (n + 1) ess ys = λ ys. ran-same f l S T (n + 1) ess ys (λ i k.
+    let q : n + suc i ≡ n + 1 + i = omega arith in
+    subst (λ (j : ℕ). S j ≡ T j) q (h (suc i) (omega arith))) in
+    ap (λ (b : Bool). onward (cond b (corrected f l n es xs) (reached xs)) (ran f l S (n + 1) ess)) e
+    ∙ by (cond (T n) (corrected f l n es xs) (reached xs)) rest
+  where
+    by : (o : Outcome) → ((ys : List ℕ) → ran f l S (n + 1) ess ys ≡ ran f l T (n + 1) ess ys) → onward o (ran f l S (n + 1) ess) ≡ onward o (ran f l T (n + 1) ess)
+    by (stopped r) rest = refl
+    by (reached ys) rest = rest ys
+
+members-same : (S T : Numbers) (n m : ℕ) → ((i : ℕ) → i < m → S (n + i) ≡ T (n + i)) → membersFrom S n m ≡ membersFrom T n m
+unfolding membersFrom
+members-same S T n zero h = refl
+members-same S T n (suc m) h =
+    let z : n + 0 ≡ n = omega arith in
+    let e : S n ≡ T n = subst (λ (k : ℕ). S k ≡ T k) z (h 0 (omega arith)) in
+    ap₂ (λ (b : Bool) (xs : List ℕ). cond b (n ∷ xs) xs) e (members-same S T (n + 1) m (λ i k.
+    let q : n + suc i ≡ n + 1 + i = omega arith in
+    subst (λ (j : ℕ). S j ≡ T j) q (h (suc i) (omega arith))))
+
+module _ (f l : List ℕ) (S T : Numbers) (n : ℕ) (es : List Entry) (h : (i : ℕ) → i < n → S (1 + i) ≡ T (1 + i)) where
+  carried-same : carried f l S n es ≡ carried f l T n es
+  unfolding carried
+  carried-same = ran-same f l S T 1 (byCorrection 1 n es) (inUse (sourcesOf f)) (λ i k. h i (omega (arith, by-length 1 n es)))
+
+  pub picked-same : pickedAs (ranFirst (carried f l S n es) (picked (membersFrom S 1 n))) ≡ pickedAs (ranFirst (carried f l T n es) (picked (membersFrom T 1 n)))
+  picked-same = ap₂ (λ (o : Outcome) (ns : List ℕ). pickedAs (ranFirst o (picked ns))) carried-same (members-same S T 1 n h)
+
+-- ---- the whole log
+
+all-marked : (i : ℕ) → i < 200 → marked (replicate 201 1) (1 + i) ≡ true
+unfolding marked
+all-marked i h = ap (λ (b : ℕ). eqb b 1) (getD-replicate 201 (1 + i) 1 0 (omega arith))
+
+came-verdict : (c : Corrected) (o : Outcome) → Comes c o → c .verdict ≡ outcomeVerdict o
+came-verdict c _ (refused e) = e
+came-verdict c _ (stands e n x) = e
+
+pub whole-verdict : (f l : List ℕ) (n : ℕ) (es : List Entry) {s : Sources} (c : Corrected) → n ≤ 200 → s ≡ sourcesOf f
+    → Comes c (ran f l (marked (replicate 201 1)) 1 (byCorrection 1 n es) (inUse s)) → c .verdict ≡ outcomeVerdict (carried f l everything n es)
+unfolding carried
+whole-verdict f l n es c h e g =
+    came-verdict c _ g
+    ∙ ap (λ (s : Sources). outcomeVerdict (ran f l (marked (replicate 201 1)) 1 (byCorrection 1 n es) (inUse s))) e
+    ∙ ap outcomeVerdict (ran-same f l (marked (replicate 201 1)) everything 1 (byCorrection 1 n es) (inUse (sourcesOf f)) (λ i k. all-marked i (omega (arith, by-length 1 n es))))
+
+-- ---- the marked corrections alone
+
+module _ (f l : List ℕ) (T : Numbers) (n : ℕ) (es : List Entry) {s : Sources} (c : Corrected) (e : s ≡ sourcesOf f)
+    (g : Comes c (ran f l T 1 (byCorrection 1 n es) (inUse s))) where
+  carried-comes : Comes c (carried f l T n es)
+  unfolding carried
+  carried-comes = subst (λ (x : Sources). Comes c (ran f l T 1 (byCorrection 1 n es) (inUse x))) e g
+
+  pub carry-refused : {r : Refusal} {p : Picked} → c .verdict ≡ Refused r → p ≡ pickedAs (refusedBy r) → p ≡ pickedAs (ranFirst (carried f l T n es) (picked (membersFrom T 1 n)))
+  carry-refused v q = q ∙ ap (λ (o : Outcome). pickedAs (ranFirst o (picked (membersFrom T 1 n)))) (sym (came-refused c _ carried-comes v))
+
+  pub carry-count : c .verdict ≡ Accepted → c .state .count ≤ 480
+  carry-count v = came-stands c _ carried-comes v .1
+
+  pub carry-stands : {m : Members} {x : Sources} → c .verdict ≡ Accepted → m ≡ listed (membersFrom T 1 n) → x ≡ sourcesFor (inUse (c .state))
+      → record { verdict = Accepted; count = m .count; taken = m .at; records = x } ≡ pickedAs (ranFirst (carried f l T n es) (picked (membersFrom T 1 n)))
+  unfolding pickedAs listed
+  carry-stands {m} {x} v a b =
+      ap₂ (λ (y : Members) (z : Sources). record { verdict = Accepted; count = y .count; taken = y .at; records = z }) a b
+      ∙ ap (λ (o : Outcome). pickedAs (ranFirst o (picked (membersFrom T 1 n)))) (sym (came-stands c _ carried-comes v .0))
+
+-- ---- the pick once a file and a log are open
+
+stopped-by : (o : Outcome) {r : Refusal} → outcomeVerdict o ≡ Refused r → o ≡ stopped r
+stopped-by (stopped s) e = ap stopped (same e)
+  where
+    same : {x y : Refusal} → Refused x ≡ Refused y → x ≡ y
+    same h = cc
+stopped-by (reached xs) e = absurd (never (sym e))
+
+runs-on : (o : Outcome) → outcomeVerdict o ≡ Accepted → (p : Pick) → ranFirst o (λ _. p) ≡ p
+runs-on (stopped r) e p = absurd (never e)
+runs-on (reached xs) e p = refl
+
+module _ (f l ws : List ℕ) (n : ℕ) (es : List Entry) {v : Verdict} (q : v ≡ wantedStage n 1 ws) where
+  pub wanted-refused : {r : Refusal} {p : Picked} → v ≡ Refused r → p ≡ pickedAs (refusedBy r) → p ≡ pickedAs (pickFrom f l ws (said n es))
+  wanted-refused e z = z ∙ rw (sym q ∙ e)
+
+  module _ (a : v ≡ Accepted) {x : Verdict} (y : x ≡ outcomeVerdict (carried f l everything n es)) where
+    pub log-refused : {r : Refusal} {p : Picked} → x ≡ Refused r → p ≡ pickedAs (refusedBy r) → p ≡ pickedAs (pickFrom f l ws (said n es))
+    log-refused e z = z ∙ rw (sym q ∙ a, stopped-by (carried f l everything n es) (sym y ∙ e))
+
+    pub taken-carried : {p : Picked} → x ≡ Accepted → p ≡ pickedAs (ranFirst (carried f l (takenOf f l n es ws) n es) (picked (membersFrom (takenOf f l n es ws) 1 n)))
+        → p ≡ pickedAs (pickFrom f l ws (said n es))
+    taken-carried e z = z ∙ rw (sym q ∙ a) (ap pickedAs (sym (runs-on (carried f l everything n es) (sym y ∙ e) _)))
+
+-- what is marked is taken
+pub marks-taken : (f l ws marks : List ℕ) (index : Index) (r : Reads l index) {relied : List ℕ} → wantedStage (index .corrections) 1 ws ≡ Accepted
+    → relied ≡ reliances f l index 0 (index .count) ++ replicate (444 - index .count) 0 → Taken (index .correction) relied ws marks
+    → (i : ℕ) → i < index .corrections → marked marks (1 + i) ≡ takenOf f l (index .corrections) (entriesFrom index 0 (index .count)) ws (1 + i)
+unfolding takenOf
+marks-taken f l ws marks index r v e t i h =
+    let b = read-by-correction l (r .beside) (r .corrections) (r .lines) (r .read) in
+    let u : wantedStage (r .corrections) 1 ws ≡ Accepted = subst (λ (n : ℕ). wantedStage n 1 ws ≡ Accepted) (corrections-of l index r) v in
+    let c = taken-closure f l (r .corrections) (r .lines) b ws marks u
+    (subst (λ (x : Index). Taken (x .correction) (reliances f l x 0 (x .count) ++ replicate (444 - x .count) 0) ws marks) (r .holds)
+    (subst (λ (x : List ℕ). Taken (index .correction) x ws marks) e t)) i in
+    let s : suc i ≡ 1 + i = omega arith in
+    subst (λ (k : ℕ). marked marks k ≡ takenOf f l (index .corrections) (entriesFrom index 0 (index .count)) ws k) s
+    (c ∙ ap₂ (λ (n : ℕ) (es : List Entry). takenOf f l n es ws (suc i)) (sym (corrections-of l index r)) (sym (lines-of l index r)))

@@ -1,0 +1,126 @@
+-- Laws of what a pick is put together from: sources with zeros past them, the marked numbers, and the record of one line.
+-- Assumes nothing.
+use mathlib.Core.Path.{_≡_, refl, sym, ap, ap₂, subst, _∙_}
+use mathlib.Core.Bool.{Bool, true, false, cond}
+use mathlib.Core.List.{List, [], _∷_, _++_, map}
+use Prim.Native.Nat.{ℕ, zero, suc, _+_, _-_, _≤_, _<_}
+use native.Mathlib.Omega.{arith}
+use lib.ListN.{length, getD, set, take, replicate, length-append, length-map, length-take, List·getD-eq-default, List·getD-map}
+use lib.Seq.{sets, length-take-le, getD-take}
+use Rattle.slices.proofs.Cases.{split}
+use Rattle.slices.proofs.PartLaws.{one-less, getD-any}
+use Rattle.slices.proofs.WriteLaws.{cleared, sets-append, stored-front}
+use Rattle.history.specs.Sets.{Numbers}
+use Rattle.routes.specs.Sources.{recordAt, inUse}
+use Rattle.routes.specs.declared.Sources.{Sources}
+use Rattle.selection.specs.Pick.{membersFrom, grown, listed, lineIn, sourcesFor}
+use Rattle.selection.specs.declared.Picked.{Picked}
+use Rattle.selection.specs.declared.carry.Members.{Members}
+
+-- ---- zeros past the sources that count
+
+pub in-use-length : (s : Sources) → s .count ≤ 480 → length (s .at) ≡ 480 → length (inUse s) ≡ s .count
+unfolding inUse
+in-use-length s h n = length-take-le (s .count) (s .at) (omega arith)
+
+pub all-cleared : (s next : Sources) → s .count ≤ 480 → length (s .at) ≡ 480 → next .count ≡ s .count → next .at ≡ cleared (s .at) (s .count) → next ≡ sourcesFor (inUse s)
+unfolding sourcesFor inUse cleared
+all-cleared s next h n c a =
+    let m : length (take (s .count) (s .at)) ≡ s .count = length-take-le (s .count) (s .at) (omega arith) in
+    ap₂ (λ (x : ℕ) (xs : List ℕ). record { count = x; at = xs }) (c ∙ sym m)
+    (a ∙ ap (λ (k : ℕ). take (s .count) (s .at) ++ replicate k 0) (let e : length (s .at) - s .count ≡ 480 - length (take (s .count) (s .at)) = omega arith in e))
+
+-- ---- the marked numbers
+
+pub grown-none : (m : Members) (n : ℕ) {b : Bool} → b ≡ false → m ≡ grown m (cond b (n ∷ []) [])
+unfolding grown
+grown-none m n e = let z : m .count + 0 ≡ m .count = omega arith in rw (e, z)
+
+pub grown-one : (m : Members) (n : ℕ) {b : Bool} → b ≡ true → record { count = m .count + 1; at = set (m .at) (m .count) n } ≡ grown m (cond b (n ∷ []) [])
+unfolding grown
+grown-one m n e = rw e
+
+grown-twice : (m : Members) (xs ys : List ℕ) → grown (grown m xs) ys ≡ grown m (xs ++ ys)
+unfolding grown
+grown-twice m xs ys =
+    ap₂ (λ (x : ℕ) (zs : List ℕ). record { count = x; at = zs }) (let e : m .count + length xs + length ys ≡ m .count + length (xs ++ ys) = omega (arith, length-append xs ys) in e)
+    (sym (sets-append xs ys (m .at) (m .count)))
+
+pub members-few : (T : Numbers) (n m : ℕ) → length (membersFrom T n m) ≤ m
+unfolding membersFrom
+members-few T n zero = omega arith
+members-few T n (suc m) = split (T n) (λ t. rw t (omega (arith, members-few T (n + 1) m))) (λ t. rw t (omega (arith, members-few T (n + 1) m)))
+
+-- the numbers from n + 1 on are left
+module _ (T : Numbers) (total n : ℕ) (found : Members) where
+  unfoldable pub membersLeft : Members
+  membersLeft = grown found (membersFrom T (n + 1) (total - n))
+
+  pub members-end : {whole : Members} → whole ≡ membersLeft → total ≤ n → found ≡ whole
+  unfolding membersLeft membersFrom grown
+  members-end w h = let z : total - n ≡ 0 = omega arith in let c : found .count + 0 ≡ found .count = omega arith in sym (w ∙ rw (z, c))
+
+pub members-start : (T : Numbers) (total : ℕ) → total ≤ 200 → listed (membersFrom T 1 total) ≡ membersLeft T total 0 (record { count = 0; at = replicate 200 0 })
+unfolding membersLeft grown listed
+members-start T total h =
+    let e : total - 0 ≡ total = omega arith in
+    let z : 0 + length (membersFrom T 1 total) ≡ length (membersFrom T 1 total) = omega arith in
+    sym (rw (e, z) (ap (λ (xs : List ℕ). record { count = length (membersFrom T 1 total); at = xs }) (stored-front 0 200 (membersFrom T 1 total) (omega (arith, members-few T 1 total)))))
+
+pub members-next : (T : Numbers) (total n : ℕ) (found next : Members) {b : Bool} {whole : Members} → whole ≡ membersLeft T total n found → n < total → b ≡ T (n + 1)
+    → next ≡ grown found (cond b ((n + 1) ∷ []) []) → whole ≡ membersLeft T total (n + 1) next
+unfolding membersLeft membersFrom
+members-next T total n found next {b} w h t e =
+    w ∙ rw (one-less total n h) (ap (grown found) (apart (T (n + 1)) (membersFrom T (n + 1 + 1) (total - (n + 1)))))
+    ∙ sym (grown-twice found (cond (T (n + 1)) ((n + 1) ∷ []) []) (membersFrom T (n + 1 + 1) (total - (n + 1))))
+    ∙ ap (λ (m : Members). grown m (membersFrom T (n + 1 + 1) (total - (n + 1)))) (sym (e ∙ ap (λ (x : Bool). grown found (cond x ((n + 1) ∷ []) [])) t))
+  where
+    apart : (x : Bool) (rest : List ℕ) → cond x ((n + 1) ∷ rest) rest ≡ cond x ((n + 1) ∷ []) [] ++ rest
+    apart true rest = refl
+    apart false rest = refl
+
+-- no more were found than there are numbers before
+pub grown-few : (found next : Members) (n : ℕ) (b : Bool) → next ≡ grown found (cond b ((n + 1) ∷ []) []) → found .count ≤ n → next .count ≤ n + 1
+unfolding grown
+grown-few found next n b e h = subst (λ (m : Members). m .count ≤ n + 1) (sym e) (by b)
+  where
+    by : (x : Bool) → grown found (cond x ((n + 1) ∷ []) []) .count ≤ n + 1
+    by true = omega arith
+    by false = omega arith
+
+-- ---- the record of a line
+
+module _ (f l : List ℕ) (s : Sources) where
+  pub line-zero : (n : ℕ) → n ≡ 0 → [] ≡ lineIn f l s n
+  unfolding lineIn
+  line-zero n e = rw e
+
+  line-beyond : (n : ℕ) → length (inUse s) < n → [] ≡ lineIn f l s n
+  unfolding lineIn
+  line-beyond zero h = refl
+  line-beyond (suc n) h = sym (List·getD-eq-default (map (recordAt f l) (inUse s)) [] (omega (arith, length-map (inUse s) (recordAt f l))))
+
+  pub line-past : (n : ℕ) → s .count < n → [] ≡ lineIn f l s n
+  unfolding inUse
+  line-past n h = line-beyond n (omega (arith, length-take (s .count) (s .at)))
+
+  pub line-far : (n : ℕ) → length (s .at) ≡ 480 → 480 < n → [] ≡ lineIn f l s n
+  unfolding inUse
+  line-far n e h = line-beyond n (omega (arith, length-take (s .count) (s .at)))
+
+  line-there : (n : ℕ) → n < s .count → n < length (s .at) → recordAt f l (getD (s .at) n 0) ≡ lineIn f l s (suc n)
+  unfolding lineIn inUse
+  line-there n h k =
+      let m : n < length (take (s .count) (s .at)) = omega (arith, length-take (s .count) (s .at)) in
+      sym (getD-any (map (recordAt f l) (take (s .count) (s .at))) n [] (recordAt f l 0) (omega (arith, length-map (take (s .count) (s .at)) (recordAt f l)))
+      ∙ List·getD-map (recordAt f l) (take (s .count) (s .at)) n 0 ∙ ap (recordAt f l) (getD-take (s .count) (s .at) n 0 h))
+
+  pub line-is : (n : ℕ) {r : List ℕ} → (n ≡ 0 → ⊥) → n ≤ s .count → n ≤ 480 → length (s .at) ≡ 480 → r ≡ recordAt f l (getD (s .at) (n - 1) 0) → r ≡ lineIn f l s n
+  line-is zero z h k e q = absurd (z refl)
+  line-is (suc n) z h k e q =
+      let m : suc n - 1 ≡ n = omega arith in
+      q ∙ ap (λ (i : ℕ). recordAt f l (getD (s .at) i 0)) m ∙ line-there n (omega arith) (omega arith)
+
+-- a line of the same pick
+pub line-of-pick : (f l : List ℕ) (n : ℕ) {p q : Picked} {r : List ℕ} → r ≡ lineIn f l (p .records) n → p ≡ q → r ≡ lineIn f l (q .records) n
+line-of-pick f l n e h = e ∙ ap (λ (x : Picked). lineIn f l (x .records) n) h

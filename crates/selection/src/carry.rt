@@ -1,0 +1,169 @@
+// What corrections make of the frozen records: the whole log for its verdict, or the marked ones for the new file. Assumes of its callers,
+// all in this crate, that the index is that of a log which was read.
+ghost use mathlib.Core.Path.{_≡_};
+ghost use mathlib.Core.Bool.{cond};
+ghost use mathlib.Core.List.{[], _∷_};
+ghost use Prim.Native.Nat.{_+_, _≤_, _<_};
+ghost use Rattle.routes.specs.Sources.{inUse};
+ghost use Rattle.selection.specs.Apply.{entriesFrom};
+ghost use Rattle.selection.specs.Run.{marked};
+ghost use Rattle.selection.specs.Pick.{
+  Reads,
+  everything,
+  membersFrom,
+  grown,
+  listed,
+  outcomeVerdict,
+  ranFirst,
+  refusedBy,
+  picked,
+  carried,
+  pickFrom,
+  sourcesFor,
+  pickedAs,
+};
+ghost use Rattle.corrections.specs.Reading.{said};
+use crate::Picked;
+use crate::opening::within;
+use crate::relied::reliances;
+use crate::relied::taken;
+use crate::run::is_marked;
+use crate::run::run;
+use corrections::Index;
+use refusals::Refusal;
+use refusals::Verdict;
+use routes::Sources;
+use routes::sources_of;
+
+// Some numbers in rising order, with zeros past them.
+pub(crate) struct Members {
+    pub count: usize,
+    pub at: [u32; 200],
+}
+
+// The pick that is refused: nothing but zeros beside the refusal.
+pub(crate) fn refused_pick(refusal: Refusal) -> Picked
+    ensures { λ r. ⌜ r ≡ pickedAs (refusedBy refusal) ⌝ }
+{
+    Picked {
+        verdict: Verdict::Refused(refusal),
+        count: 0,
+        taken: [0u32; 200],
+        records: Sources {
+            count: 0,
+            at: [0u32; 480],
+        },
+    }
+}
+
+// The state with zeros past the sources that count.
+fn cleared(state: Sources) -> Sources
+    requires { ⌜ state .count ≤ 480 ⌝ }
+    ensures { λ r. ⌜ r ≡ sourcesFor (inUse state) ⌝ }
+{
+    let mut next = state;
+    let mut k = state.count;
+    while k < 480 {
+        next.at[k] = 0;
+        k += 1;
+    }
+    next
+}
+
+// The numbers with one more behind them, if it is marked.
+fn with_number(found: Members, n: usize, marked: bool) -> Members
+    requires { ⌜ (found .count < 200) × (n ≤ 200) ⌝ }
+    ensures { λ r. ⌜ r ≡ grown found (cond marked (n ∷ []) []) ⌝ }
+{
+    if !marked {
+        return found;
+    }
+    let i = found.count;
+    let mut next = found;
+    next.at[i] = n as u32;
+    next.count = i + 1;
+    next
+}
+
+// The marked numbers from 1 up to a total.
+fn members_of(marks: &[u8], total: usize) -> Members
+    requires { ⌜ total ≤ 200 ⌝ }
+    ensures { λ r. ⌜ r ≡ listed (membersFrom (marked (now (marks .entry))) 1 total) ⌝ }
+{
+    let mut found = Members {
+        count: 0,
+        at: [0u32; 200],
+    };
+    let mut n = 0;
+    while n < total {
+        let marked = is_marked(marks, n + 1);
+        let next = with_number(found, n + 1, marked);
+        found = next;
+        n += 1;
+    }
+    found
+}
+
+// The verdict over the whole log, correction by correction 10, 11.
+pub(crate) fn whole<'a>(frozen: &'a [u8], log: &'a [u8], index: Index) -> Verdict
+    requires { ⌜ Reads (now log) index ⌝ }
+    ensures { λ r. ⌜ r ≡ outcomeVerdict (carried (now (frozen .entry)) (now (log .entry)) everything (index .corrections) (entriesFrom index 0 (index .count))) ⌝ }
+{
+    let marks = [1u8; 201];
+    let state = sources_of(frozen);
+    let all = run(frozen, log, index, &marks, state);
+    all.verdict
+}
+
+// What the marked corrections make of the frozen records.
+fn carry<'a>(frozen: &'a [u8], log: &'a [u8], index: Index, marks: &[u8]) -> Picked
+    requires { ⌜ Reads (now log) index ⌝ }
+    ensures { λ r. ⌜ r ≡ pickedAs (ranFirst (carried (now (frozen .entry)) (now (log .entry)) (marked (now (marks .entry))) (index .corrections) (entriesFrom index 0 (index .count))) (picked (membersFrom (marked (now (marks .entry))) 1 (index .corrections)))) ⌝ }
+{
+    let state = sources_of(frozen);
+    let new = run(frozen, log, index, marks, state);
+    let verdict = new.verdict;
+    match verdict {
+        Verdict::Accepted => {}
+        Verdict::Refused(r) => {
+            return refused_pick(r);
+        }
+    }
+    let total = index.corrections;
+    let members = members_of(marks, total);
+    let left = new.state;
+    let records = cleared(left);
+    let numbers = members.at;
+    Picked {
+        verdict: Verdict::Accepted,
+        count: members.count,
+        taken: numbers,
+        records: records,
+    }
+}
+
+// The pick once a file and a log are open: 12, then the whole log; then the wanted corrections and those that they rely on, alone.
+pub(crate) fn pick_from<'a>(frozen: &'a [u8], log: &'a [u8], index: Index, wanted: &[u32]) -> Picked
+    requires { ⌜ Reads (now log) index ⌝ }
+    ensures { λ r. ⌜ r ≡ pickedAs (pickFrom (now (frozen .entry)) (now (log .entry)) (now (wanted .entry)) (said (index .corrections) (entriesFrom index 0 (index .count)))) ⌝ }
+{
+    let total = index.corrections;
+    let judged = within(total, wanted);
+    match judged {
+        Verdict::Accepted => {}
+        Verdict::Refused(r) => {
+            return refused_pick(r);
+        }
+    }
+    let all = whole(frozen, log, index);
+    match all {
+        Verdict::Accepted => {}
+        Verdict::Refused(r) => {
+            return refused_pick(r);
+        }
+    }
+    let relied = reliances(frozen, log, index);
+    let of = index.correction;
+    let marks = taken(&of, &relied, wanted);
+    carry(frozen, log, index, &marks)
+}
