@@ -17,7 +17,7 @@ use Rattle.refusals.specs.Table.{notInLog}
 use Rattle.refusals.specs.declared.Verdict.the-variants.{Accepted, Refused}
 use Rattle.corrections.specs.Text.{LegalLog}
 use Rattle.routes.specs.Files.{fileVerdict}
-use Rattle.routes.specs.Legal.{lines}
+use Rattle.routes.specs.Legal.{lines, Wide}
 use Rattle.routes.specs.Places.{Every}
 use Rattle.routes.specs.Sources.{recordAt, records}
 use Rattle.routes.proofs.InTurnLaws.{never}
@@ -99,7 +99,7 @@ needed l ws = closure procedures (logOf l) (wants ws)
 -- order, those of the fewest corrections: the wanted ones, and with each the last earlier one on every route that it touches. Over the
 -- frozen records these alone run without failing; every route stands in the new file as the log left it after the last correction taken
 -- that touches it, or as it is in the frozen file. The new file's records are those that lie at the sources; written as lines, they are
--- an accepted file. There are at most 480 of them, and at most 200 numbers.
+-- an accepted file. Each is 132 bytes long; there are at most 480 of them, and at most 200 numbers.
 pub record Demanded (frozen log wanted taken sources : List ℕ) : Type 0 where
   pub legal : LegalLog log (length (records frozen))
   pub numbers : taken ≡ membersFrom (needed legal wanted) 1 (length (legal .corrections))
@@ -107,6 +107,7 @@ pub record Demanded (frozen log wanted taken sources : List ℕ) : Type 0 where
   pub carried : Carried procedures (records frozen) (logOf legal) (needed legal wanted)
   pub new : carried .new ≡ map (recordAt frozen log) sources
   pub accepted : fileVerdict (lines (map (recordAt frozen log) sources)) ≡ Accepted
+  pub wide : Every Wide (map (recordAt frozen log) sources)
   pub atMost : length sources ≤ 480
   pub takenAtMost : length taken ≤ 200
 
@@ -128,6 +129,7 @@ picked-demand frozen log ws taken xs e =
       carried = c;
       new = new;
       accepted = file-iff (lines rs) .1 (rs, refl, p .wide, few, accepted-iff rs .0 (subst (H.Accepted procedures) new (c .accepted)));
+      wide = p .wide;
       atMost = omega (arith, few, length-map xs (recordAt frozen log));
       takenAtMost = omega (arith, ap length ns, members-few T 1 n, o .count, o .legal .few);
     }

@@ -23,3 +23,4 @@ pub mod LogLaws
 pub mod OpenedLaws
 pub mod PickSteps
 pub mod Demand
+mod StoredLaws

@@ -7,7 +7,7 @@ use mathlib.Core.List.{List, [], _∷_, _++_, map}
 use lib.Dec.{eqb, ltb}
 use lib.ListN.{length, getD, replicate}
 use lib.Seq.{sets}
-use Rattle.slices.specs.Part.{member}
+use Rattle.slices.specs.Part.{part, member}
 use Rattle.refusals.specs.Table.{logTooLong, notInLog, bufferTooShort}
 use Rattle.refusals.specs.declared.Refusal.{Refusal}
 use Rattle.refusals.specs.declared.Verdict.{Verdict}
@@ -127,6 +127,7 @@ module _ (frozen log : List ℕ) where
   newRecords (refusedBy r) = []
   newRecords (picked taken xs) = map (recordAt frozen log) xs
 
+  -- "records of 132 bytes, each followed by a line feed"
   unfoldable pub newBytes : Pick → List ℕ
   newBytes p = lines (newRecords p)
 
@@ -147,6 +148,11 @@ sourcesFor xs = record { count = length xs; at = xs ++ replicate (480 - length x
 unfoldable pub pickedAs : Pick → Picked
 pickedAs (refusedBy r) = record { verdict = Refused r; count = 0; taken = replicate 200 0; records = sourcesFor [] }
 pickedAs (picked ns xs) = record { verdict = Accepted; count = length ns; taken = ns ++ replicate (200 - length ns) 0; records = sourcesFor xs }
+
+-- some records as they are written, each in 132 bytes with its line feed
+unfoldable pub stored : List (List ℕ) → List ℕ
+stored [] = []
+stored (r ∷ rs) = (part 132 0 r ++ 10 ∷ []) ++ stored rs
 
 -- some bytes, and zeros past them
 unfoldable pub padded : ℕ → List ℕ → List ℕ

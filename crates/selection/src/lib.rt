@@ -6,6 +6,7 @@
 mod apply;
 mod carry;
 mod correct;
+mod file;
 mod judge;
 mod opening;
 mod relied;
@@ -13,11 +14,14 @@ mod run;
 mod state;
 
 ghost use mathlib.Core.Path.{_≡_};
-ghost use Rattle.selection.specs.Pick.{logVerdict, pickOf, lineIn, pickedAs};
+ghost use lib.ListN.{length};
+ghost use Rattle.selection.specs.Pick.{logVerdict, pickOf, filePick, newBytes, lineIn, pickedAs, padded};
 use carry::pick_from;
 use carry::refused_pick;
 use carry::whole;
+use file::write_records;
 use opening::opening;
+use refusals::Refusal;
 use refusals::Verdict;
 use routes::Sources;
 use routes::record_at;
@@ -54,6 +58,21 @@ pub fn pick<'a>(frozen: &'a [u8], log: &'a [u8], wanted: &[u32]) -> Picked
         Verdict::Accepted => pick_from(frozen, log, index, wanted),
         Verdict::Refused(r) => refused_pick(r),
     }
+}
+
+// The same with the new file's bytes in a buffer: 14 where fewer than 63,840 bytes are lent. Zeros past the file; on every refusal the whole
+// buffer is 0.
+pub fn new_file<'a>(frozen: &'a [u8], log: &'a [u8], wanted: &[u32], out: &mut [u8]) -> Picked
+    ensures { λ r. ⌜ (r ≡ pickedAs (filePick (now (frozen .entry)) (now (log .entry)) (length (now (out .entry))) (now (wanted .entry)))) × (now (out .exit) ≡ padded (length (now (out .entry))) (newBytes (now (frozen .entry)) (now (log .entry)) (filePick (now (frozen .entry)) (now (log .entry)) (length (now (out .entry))) (now (wanted .entry))))) ⌝ }
+{
+    slices::clear(&mut *out);
+    if out.len() < 63840 {
+        return refused_pick(Refusal::buffer_too_short());
+    }
+    let picked = pick(frozen, log, wanted);
+    let records = picked.records;
+    write_records(frozen, log, records, &mut *out);
+    picked
 }
 
 // The record of line n of a pick's new file, as a part of the frozen file or of the log. Empty for line 0 and for a line past the end; a
