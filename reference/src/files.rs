@@ -114,9 +114,9 @@ pub fn made_by(instructions: &[u8]) -> Vec<Vec<u8>> {
 
 // ---- records
 
-type Change<'a> = (usize, &'a str);
+pub(crate) type Change<'a> = (usize, &'a str);
 
-fn changed(base: &[u8], changes: &[Change]) -> Vec<u8> {
+pub(crate) fn changed(base: &[u8], changes: &[Change]) -> Vec<u8> {
     let mut record = base.to_vec();
     for (first, bytes) in changes {
         record[first - 1..first - 1 + bytes.len()].copy_from_slice(bytes.as_bytes());
@@ -125,12 +125,12 @@ fn changed(base: &[u8], changes: &[Change]) -> Vec<u8> {
 }
 
 /// A good leg with a sequence number, and its line feed.
-fn leg(sequence: usize, changes: &[Change]) -> Vec<u8> {
+pub(crate) fn leg(sequence: usize, changes: &[Change]) -> Vec<u8> {
     changed(&changed(LEG.as_bytes(), &[(27, &format!("{sequence:03}"))]), changes)
 }
 
 /// A good continuation of that leg with a continuation number.
-fn continuation(sequence: usize, number: char, changes: &[Change]) -> Vec<u8> {
+pub(crate) fn continuation(sequence: usize, number: char, changes: &[Change]) -> Vec<u8> {
     let own = changed(CONTINUATION.as_bytes(), &[(27, &format!("{sequence:03}")), (39, &number.to_string())]);
     changed(&own, changes)
 }
@@ -280,7 +280,7 @@ fn pairs(files: &mut Vec<Vec<u8>>) {
 }
 
 /// A fault of each stage, as changes to a leg.
-fn faults() -> Vec<(u8, Vec<Change<'static>>)> {
+pub(crate) fn faults() -> Vec<(u8, Vec<Change<'static>>)> {
     vec![
         (1, vec![(133, " ")]),
         (3, vec![(63, "3601")]),

@@ -1,6 +1,6 @@
 //! A second, separate reading of the rules: it judges one procedure record (PD,
-//! PE, PF), takes it apart and puts it together again, checks files, and reads
-//! logs and wanted lists.
+//! PE, PF), takes it apart and puts it together again, checks files, reads logs
+//! and wanted lists, and picks corrections.
 //!
 //! - `layout`: the columns of both kinds of record and what each may hold
 //! - `judge`: the three stages a record goes through (3, 4, 5)
@@ -13,6 +13,9 @@
 //! - `log`: a correction log as text (9, 13)
 //! - `wanted`: a list of wanted corrections
 //! - `logs`: the stored set of both, and what this program answers to it
+//! - `pick`: a log judged over its frozen file, and picking (10, 11, 12, 14)
+//! - `picks`: the stored set of picks
+//! - `pick_vectors`: how it is stored, and what this program answers to it
 
 pub mod cases;
 pub mod file;
@@ -22,6 +25,9 @@ pub mod layout;
 pub mod log;
 pub mod logs;
 pub mod parts;
+pub mod pick;
+pub mod pick_vectors;
+pub mod picks;
 pub mod record;
 pub mod report;
 pub mod wanted;
@@ -33,14 +39,19 @@ pub use record::{read, write};
 /// A stored file, by its path from this package, and what it holds.
 pub type Stored = (&'static str, Vec<u8>);
 
-/// All stored files: of records, of files, of logs and lists.
+/// All stored files: of records, of files, of logs and lists, of picks.
 pub fn stored_files() -> Vec<Stored> {
     let set = cases::all();
     let records = [
         ("../crates/vectors_record/data/records.bin", cases::stored(&set)),
         ("../crates/vectors_record/stdout", report::all(&set).into_bytes()),
     ];
-    records.into_iter().chain(files::stored_files()).chain(logs::stored_files()).collect()
+    records
+        .into_iter()
+        .chain(files::stored_files())
+        .chain(logs::stored_files())
+        .chain(pick_vectors::stored_files())
+        .collect()
 }
 
 /// Why a record was not read or written. Columns count from 1; the place is 1

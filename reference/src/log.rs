@@ -24,11 +24,20 @@ const MOST_RECORDS: usize = 480;
 /// The letter, a tab, a record and a line feed.
 const CHANGE: usize = 135;
 
-pub fn read(log: &[u8], frozen: usize) -> Result<Log, Refusal> {
-    let limit = |place| Refusal { number: 13, place, column: 0 };
-    if log.len() > LONGEST_LOG {
-        return Err(limit(0));
+/// Refuses a log that is too long, whatever it says.
+pub fn check_length(log: &[u8]) -> Result<(), Refusal> {
+    match log.len() {
+        0..=LONGEST_LOG => Ok(()),
+        _ => Err(limit(0)),
     }
+}
+
+fn limit(place: usize) -> Refusal {
+    Refusal { number: 13, place, column: 0 }
+}
+
+pub fn read(log: &[u8], frozen: usize) -> Result<Log, Refusal> {
+    check_length(log)?;
     let mut said = Log { corrections: 0, changes: Vec::new() };
     let mut records = frozen;
     let (mut at, mut line) = (0, 0);

@@ -1,5 +1,5 @@
-//! Writes the stored sets of records, of files and of logs, and the answers to
-//! them.
+//! Writes the stored sets of records, of files, of logs and of picks, and the
+//! answers to them.
 
 use std::path::Path;
 use std::{fs, io};
