@@ -16,14 +16,16 @@ use Rattle.routes.specs.InTurn.{inTurn}
 use Rattle.routes.specs.Sources.{records, inUse, sourcesOf}
 use Rattle.routes.specs.declared.Sources.{Sources}
 use Rattle.routes.proofs.InTurnLaws.{never}
+use Rattle.routes.proofs.SourceLaws.{own-count}
 use Rattle.history.specs.Sets.{Numbers}
 use Rattle.corrections.specs.Reading.{Entry, Reading, refused, said, readLog, indexOf}
 use Rattle.corrections.specs.declared.Index.{Index}
 use Rattle.corrections.proofs.FrontLaws.{not-said}
 use Rattle.corrections.proofs.Legality.{verdict-said}
-use Rattle.selection.specs.Apply.{Within, entriesFrom}
-use Rattle.selection.specs.Correct.{Outcome, stopped, reached, corrected, Comes, refused, stands}
-use Rattle.selection.specs.Run.{byCorrection, onward, ran, marked}
+use Rattle.applying.specs.Apply.{Within, entriesFrom}
+use Rattle.applying.specs.Bounds.{ranOver, ranAs}
+use Rattle.applying.specs.Correct.{Outcome, stopped, reached, corrected}
+use Rattle.applying.specs.Run.{byCorrection, onward, ran, marked}
 use Rattle.selection.specs.Reliance.{reliances, Taken}
 use Rattle.selection.specs.Pick.{
   Reads,
@@ -45,13 +47,12 @@ use Rattle.selection.specs.Pick.{
   logVerdict,
   pickFrom,
   pickOf,
-  sourcesFor,
   pickedAs,
 }
 use Rattle.selection.specs.declared.Picked.{Picked}
 use Rattle.selection.specs.declared.carry.Members.{Members}
-use Rattle.selection.specs.declared.correct.Corrected.{Corrected}
-use Rattle.selection.proofs.RunLaws.{came-refused, came-stands}
+use Rattle.applying.specs.declared.Ran.{Ran}
+use Rattle.applying.proofs.BoundLaws.{ran-bound}
 use Rattle.selection.proofs.GroupLaws.{read-by-correction}
 use Rattle.selection.proofs.IndexLaws.{first-lines, read-sound}
 use Rattle.selection.proofs.TakenLaws.{taken-closure}
@@ -176,44 +177,76 @@ module _ (f l : List ℕ) (S T : Numbers) (n : ℕ) (es : List Entry) (h : (i : 
   pub picked-same : pickedAs (ranFirst (carried f l S n es) (picked (membersFrom S 1 n))) ≡ pickedAs (ranFirst (carried f l T n es) (picked (membersFrom T 1 n)))
   picked-same = ap₂ (λ (o : Outcome) (ns : List ℕ). pickedAs (ranFirst o (picked ns))) carried-same (members-same S T 1 n h)
 
--- ---- the whole log
+-- ---- what is run
 
 all-marked : (i : ℕ) → i < 200 → marked (replicate 201 1) (1 + i) ≡ true
 unfolding marked
 all-marked i h = ap (λ (b : ℕ). eqb b 1) (getD-replicate 201 (1 + i) 1 0 (omega arith))
 
-came-verdict : (c : Corrected) (o : Outcome) → Comes c o → c .verdict ≡ outcomeVerdict o
-came-verdict c _ (refused e) = e
-came-verdict c _ (stands e n x) = e
+-- what is run over an index that was read, and the frozen records
+module _ (f l : List ℕ) (T : Numbers) (index : Index) (r : Reads l index) {s : Sources} (e : s ≡ sourcesOf f) (x : Ran) (g : x ≡ ranAs (ranOver f l T index s)) where
+  pub run-carried : x ≡ ranAs (carried f l T (index .corrections) (entriesFrom index 0 (index .count)))
+  unfolding carried
+  run-carried =
+      g ∙ ap ranAs (ran-bound f l T index s (record { records = own-count f e .1; lines = index-few l index r; within = index-within l index r })
+      ∙ ap (λ (t : Sources). ran f l T 1 (byCorrection 1 (index .corrections) (entriesFrom index 0 (index .count))) (inUse t)) e)
 
-pub whole-verdict : (f l : List ℕ) (n : ℕ) (es : List Entry) {s : Sources} (c : Corrected) → n ≤ 200 → s ≡ sourcesOf f
-    → Comes c (ran f l (marked (replicate 201 1)) 1 (byCorrection 1 n es) (inUse s)) → c .verdict ≡ outcomeVerdict (carried f l everything n es)
-unfolding carried
-whole-verdict f l n es c h e g =
-    came-verdict c _ g
-    ∙ ap (λ (s : Sources). outcomeVerdict (ran f l (marked (replicate 201 1)) 1 (byCorrection 1 n es) (inUse s))) e
-    ∙ ap outcomeVerdict (ran-same f l (marked (replicate 201 1)) everything 1 (byCorrection 1 n es) (inUse (sourcesOf f)) (λ i k. all-marked i (omega (arith, by-length 1 n es))))
+ran-verdict : (o : Outcome) → ranAs o .verdict ≡ outcomeVerdict o
+unfolding ranAs
+ran-verdict (stopped r) = refl
+ran-verdict (reached xs) = refl
+
+-- ---- the whole log
+
+pub whole-verdict : (f l : List ℕ) (index : Index) (r : Reads l index) {s : Sources} → s ≡ sourcesOf f → (x : Ran) → x ≡ ranAs (ranOver f l (marked (replicate 201 1)) index s)
+    → x .verdict ≡ outcomeVerdict (carried f l everything (index .corrections) (entriesFrom index 0 (index .count)))
+whole-verdict f l index r e x g =
+    ap (λ (y : Ran). y .verdict) (run-carried f l (marked (replicate 201 1)) index r e x g) ∙ ran-verdict _
+    ∙ ap outcomeVerdict (carried-same f l (marked (replicate 201 1)) everything (index .corrections) (entriesFrom index 0 (index .count)) (λ i h. all-marked i (omega (arith, corrections-few l index r))))
 
 -- ---- the marked corrections alone
 
-module _ (f l : List ℕ) (T : Numbers) (n : ℕ) (es : List Entry) {s : Sources} (c : Corrected) (e : s ≡ sourcesOf f)
-    (g : Comes c (ran f l T 1 (byCorrection 1 n es) (inUse s))) where
-  carried-comes : Comes c (carried f l T n es)
-  unfolding carried
-  carried-comes = subst (λ (x : Sources). Comes c (ran f l T 1 (byCorrection 1 n es) (inUse x))) e g
+-- a pick from what was run
+abbrev pub fromRan : List ℕ → Outcome → Picked
+fromRan ns o = pickedAs (ranFirst o (picked ns))
 
-  pub carry-refused : {r : Refusal} {p : Picked} → c .verdict ≡ Refused r → p ≡ pickedAs (refusedBy r) → p ≡ pickedAs (ranFirst (carried f l T n es) (picked (membersFrom T 1 n)))
-  carry-refused v q = q ∙ ap (λ (o : Outcome). pickedAs (ranFirst o (picked (membersFrom T 1 n)))) (sym (came-refused c _ carried-comes v))
+ran-refused : (ns : List ℕ) (o : Outcome) {q : Refusal} → ranAs o .verdict ≡ Refused q → fromRan ns o ≡ pickedAs (refusedBy q)
+unfolding ranAs
+ran-refused ns (stopped q) e = ap (λ (y : Refusal). pickedAs (refusedBy y)) (same e)
+  where
+    same : {a b : Refusal} → Refused a ≡ Refused b → a ≡ b
+    same h = cc
+ran-refused ns (reached xs) e = absurd (never (sym e))
 
-  pub carry-count : c .verdict ≡ Accepted → c .state .count ≤ 480
-  carry-count v = came-stands c _ carried-comes v .1
+ran-picked : (ns : List ℕ) (o : Outcome) → ranAs o .verdict ≡ Accepted
+    → record { verdict = Accepted; count = length ns; taken = ns ++ replicate (200 - length ns) 0; records = ranAs o .records } ≡ fromRan ns o
+unfolding ranAs pickedAs
+ran-picked ns (stopped q) e = absurd (never e)
+ran-picked ns (reached xs) e = refl
 
-  pub carry-stands : {m : Members} {x : Sources} → c .verdict ≡ Accepted → m ≡ listed (membersFrom T 1 n) → x ≡ sourcesFor (inUse (c .state))
-      → record { verdict = Accepted; count = m .count; taken = m .at; records = x } ≡ pickedAs (ranFirst (carried f l T n es) (picked (membersFrom T 1 n)))
-  unfolding pickedAs listed
-  carry-stands {m} {x} v a b =
-      ap₂ (λ (y : Members) (z : Sources). record { verdict = Accepted; count = y .count; taken = y .at; records = z }) a b
-      ∙ ap (λ (o : Outcome). pickedAs (ranFirst o (picked (membersFrom T 1 n)))) (sym (came-stands c _ carried-comes v .0))
+module _ (f l : List ℕ) (T : Numbers) (index : Index) (r : Reads l index) {s : Sources} (e : s ≡ sourcesOf f) (x : Ran) (g : x ≡ ranAs (ranOver f l T index s)) where
+  ns : List ℕ
+  ns = membersFrom T 1 (index .corrections)
+
+  here : Outcome
+  here = carried f l T (index .corrections) (entriesFrom index 0 (index .count))
+
+  was : x ≡ ranAs here
+  unfolding here
+  was = run-carried f l T index r e x g
+
+  pub carry-refused : {q : Refusal} {p : Picked} → x .verdict ≡ Refused q → p ≡ pickedAs (refusedBy q)
+      → p ≡ pickedAs (ranFirst (carried f l T (index .corrections) (entriesFrom index 0 (index .count))) (picked (membersFrom T 1 (index .corrections))))
+  unfolding here ns
+  carry-refused v q = q ∙ sym (ran-refused ns here (sym (ap (λ (y : Ran). y .verdict) was) ∙ v))
+
+  pub carry-stands : {m : Members} → x .verdict ≡ Accepted → m ≡ listed (membersFrom T 1 (index .corrections))
+      → record { verdict = Accepted; count = m .count; taken = m .at; records = x .records }
+      ≡ pickedAs (ranFirst (carried f l T (index .corrections) (entriesFrom index 0 (index .count))) (picked (membersFrom T 1 (index .corrections))))
+  unfolding listed here ns
+  carry-stands v a =
+      ap₂ (λ (y : Members) (z : Sources). record { verdict = Accepted; count = y .count; taken = y .at; records = z }) a (ap (λ (y : Ran). y .records) was)
+      ∙ ran-picked ns here (sym (ap (λ (y : Ran). y .verdict) was) ∙ v)
 
 -- ---- the pick once a file and a log are open
 

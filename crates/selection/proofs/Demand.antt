@@ -28,8 +28,8 @@ use Rattle.history.specs.Sets.{Numbers, closure}
 use Rattle.history.specs.Demand.{Fewest, Carried}
 use Rattle.history.proofs.Statements as history
 use Rattle.selection.specs.Pick.{wantedStage, wants, membersFrom, picked, logVerdict, pickOf}
-use Rattle.selection.specs.Procedures.{procedures, logOf}
-use Rattle.selection.proofs.Procedures.{accepted-iff}
+use Rattle.applying.specs.Procedures.{procedures, logOf}
+use Rattle.applying.proofs.Procedures.{accepted-iff}
 use Rattle.selection.proofs.OpenedLaws.{legal-opened, carried-placed}
 use Rattle.selection.proofs.PickSteps.{outcome-filed, everything-runs, accepted-whole, whole-accepted, legal-accepted, legal-whole}
 use Rattle.selection.proofs.PickSteps.{steps, whole-picks, theory, taken-set, taken-runs, members-few}

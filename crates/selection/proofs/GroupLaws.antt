@@ -16,7 +16,7 @@ use Rattle.corrections.specs.Text.{Change, letterOf, LegalLog}
 use Rattle.corrections.proofs.TextLaws.{entriesFrom, entriesIn}
 use Rattle.corrections.proofs.Within.{legal-read}
 use Rattle.corrections.proofs.Spelling.{said-legal}
-use Rattle.selection.specs.Run.{leading, byCorrection}
+use Rattle.applying.specs.Run.{leading, byCorrection}
 
 -- ---- groups of lines
 

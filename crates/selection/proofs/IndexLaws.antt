@@ -15,7 +15,7 @@ use Rattle.corrections.specs.declared.Index.{Index}
 use Rattle.corrections.proofs.TextLaws.{entriesIn}
 use Rattle.corrections.proofs.Within.{EveryEntry, Lies, legal-read, legal-lies, at-most-444}
 use Rattle.corrections.proofs.Spelling.{said-legal}
-use Rattle.selection.specs.Apply.{entryAt, entriesFrom, Within}
+use Rattle.applying.specs.Apply.{entryAt, entriesFrom, Within}
 
 -- the line that stands where there is none
 abbrev pub noLine : Entry

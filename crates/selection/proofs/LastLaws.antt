@@ -17,8 +17,8 @@ use Rattle.routes.specs.Places.{keyOf}
 use Rattle.history.specs.Apply.{take-out, put-in, routeOf, Touches, touches?}
 use Rattle.history.specs.Sets.{numbered, lastOn}
 use Rattle.corrections.specs.Reading.{Entry}
-use Rattle.selection.specs.Apply.{recordOf}
-use Rattle.selection.specs.Procedures.{procedures, operation, operations}
+use Rattle.applying.specs.Apply.{recordOf}
+use Rattle.applying.specs.Procedures.{procedures, operation, operations}
 use Rattle.selection.specs.Reliance.{lastBefore}
 use Rattle.selection.proofs.GroupLaws.{AllOf, Grouped, flat, flat-next, grouped-at, all-at, Stands}
 

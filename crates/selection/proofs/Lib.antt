@@ -1,10 +1,4 @@
 -- The laws of this crate; what is promised stands in Demand.
-mod ShiftLaws
-mod StateLaws
-mod ApplyLaws
-mod JudgeLaws
-mod CorrectLaws
-mod RunLaws
 mod OpeningLaws
 mod MarkLaws
 mod RelianceLaws
@@ -14,11 +8,6 @@ mod IndexLaws
 mod TakenLaws
 mod MemberLaws
 mod CarryLaws
-pub mod Procedures
-pub mod Kept
-pub mod PlacedLaws
-pub mod TouchedLaws
-pub mod Bridge
 pub mod LogLaws
 pub mod OpenedLaws
 pub mod PickSteps

@@ -15,11 +15,11 @@ use Rattle.corrections.proofs.ReadBack.{heading-length, changes-length}
 use Rattle.routes.specs.Sources.{recordWithin}
 use Rattle.routes.proofs.SourceLaws.{in-log}
 use Rattle.history.specs.Apply.{Op, take-out, put-in}
-use Rattle.selection.specs.Apply.{recordOf}
-use Rattle.selection.specs.Run.{byCorrection}
+use Rattle.applying.specs.Apply.{recordOf}
+use Rattle.applying.specs.Run.{byCorrection}
 use Rattle.selection.proofs.GroupLaws.{groups, by-groups}
-use Rattle.selection.specs.Procedures.{operation, operations, opOf, logOf}
-use Rattle.selection.proofs.Kept.{addsAll, addsIn, WideLines, WideLog}
+use Rattle.applying.specs.Procedures.{operation, operations, opOf, logOf}
+use Rattle.applying.proofs.Kept.{addsAll, addsIn, WideLines, WideLog}
 
 -- ---- a line, where the log has it
 

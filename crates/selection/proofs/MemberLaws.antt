@@ -6,29 +6,16 @@ use mathlib.Core.List.{List, [], _∷_, _++_, map}
 use Prim.Native.Nat.{ℕ, zero, suc, _+_, _-_, _≤_, _<_}
 use native.Mathlib.Omega.{arith}
 use lib.ListN.{length, getD, set, take, replicate, length-append, length-map, length-take, List·getD-eq-default, List·getD-map}
-use lib.Seq.{sets, length-take-le, getD-take}
+use lib.Seq.{getD-take}
 use Rattle.slices.proofs.Cases.{split}
 use Rattle.slices.proofs.PartLaws.{one-less, getD-any}
-use Rattle.slices.proofs.WriteLaws.{cleared, sets-append, stored-front}
+use Rattle.slices.proofs.WriteLaws.{sets-append, stored-front}
 use Rattle.history.specs.Sets.{Numbers}
 use Rattle.routes.specs.Sources.{recordAt, inUse}
 use Rattle.routes.specs.declared.Sources.{Sources}
-use Rattle.selection.specs.Pick.{membersFrom, grown, listed, lineIn, sourcesFor}
+use Rattle.selection.specs.Pick.{membersFrom, grown, listed, lineIn}
 use Rattle.selection.specs.declared.Picked.{Picked}
 use Rattle.selection.specs.declared.carry.Members.{Members}
-
--- ---- zeros past the sources that count
-
-pub in-use-length : (s : Sources) → s .count ≤ 480 → length (s .at) ≡ 480 → length (inUse s) ≡ s .count
-unfolding inUse
-in-use-length s h n = length-take-le (s .count) (s .at) (omega arith)
-
-pub all-cleared : (s next : Sources) → s .count ≤ 480 → length (s .at) ≡ 480 → next .count ≡ s .count → next .at ≡ cleared (s .at) (s .count) → next ≡ sourcesFor (inUse s)
-unfolding sourcesFor inUse cleared
-all-cleared s next h n c a =
-    let m : length (take (s .count) (s .at)) ≡ s .count = length-take-le (s .count) (s .at) (omega arith) in
-    ap₂ (λ (x : ℕ) (xs : List ℕ). record { count = x; at = xs }) (c ∙ sym m)
-    (a ∙ ap (λ (k : ℕ). take (s .count) (s .at) ++ replicate k 0) (let e : length (s .at) - s .count ≡ 480 - length (take (s .count) (s .at)) = omega arith in e))
 
 -- ---- the marked numbers
 

@@ -27,12 +27,12 @@ use Rattle.history.specs.Format as H
 use Rattle.history.specs.Apply.{Correction, run}
 use Rattle.history.specs.Sets.{Numbers, chooseFrom, choose}
 use Rattle.history.proofs.Cases.{every-some}
-use Rattle.selection.specs.Run.{byCorrection}
+use Rattle.applying.specs.Run.{byCorrection}
 use Rattle.selection.specs.Pick.{lengthStage, ifAccepted, opened, everything, carried}
-use Rattle.selection.specs.Procedures.{procedures, operations, logOf}
-use Rattle.selection.proofs.Procedures.{accepted-iff}
-use Rattle.selection.proofs.Kept.{addsIn, WideLog, Placed, placed-run}
-use Rattle.selection.proofs.Bridge.{filed, ran-records}
+use Rattle.applying.specs.Procedures.{procedures, operations, logOf}
+use Rattle.applying.proofs.Procedures.{accepted-iff}
+use Rattle.applying.proofs.Kept.{addsIn, WideLog, Placed, placed-run}
+use Rattle.applying.proofs.Bridge.{filed, ran-records}
 use Rattle.selection.proofs.LogLaws.{log-operations, wide-log, adds-log}
 
 -- ---- the frozen file

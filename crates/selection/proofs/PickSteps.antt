@@ -19,11 +19,11 @@ use Rattle.history.specs.Apply.{Correction, run}
 use Rattle.history.specs.Sets.{Numbers, closure, choose}
 use Rattle.history.specs.Demand.{Carried}
 use Rattle.history.proofs.Statements as history
-use Rattle.selection.specs.Correct.{Outcome, stopped, reached}
+use Rattle.applying.specs.Correct.{Outcome, stopped, reached}
 use Rattle.selection.specs.Pick.{opened, wantedStage, everything, wants, membersFrom, Pick, picked, judgedFirst, ranFirst}
 use Rattle.selection.specs.Pick.{outcomeVerdict, carried, takenOf, logJudged, logVerdict, pickFrom, pickOf}
-use Rattle.selection.specs.Procedures.{procedures, logOf}
-use Rattle.selection.proofs.Bridge.{filed}
+use Rattle.applying.specs.Procedures.{procedures, logOf}
+use Rattle.applying.proofs.Bridge.{filed}
 use Rattle.selection.proofs.OpenedLaws.{Opening, frozen-accepted, legal-opened, legal-opening, said-opening, carried-records, choose-everything}
 
 -- ---- outcomes

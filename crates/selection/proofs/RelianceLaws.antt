@@ -17,7 +17,7 @@ use Rattle.routes.specs.Places.{keyOf}
 use Rattle.routes.specs.Sources.{recordAt}
 use Rattle.corrections.specs.Reading.{Entry}
 use Rattle.corrections.specs.declared.Index.{Index}
-use Rattle.selection.specs.Apply.{entryAt, entriesFrom, recordOf}
+use Rattle.applying.specs.Apply.{entryAt, entriesFrom, recordOf}
 use Rattle.selection.specs.Reliance.{lastBefore, reliedBy, reliances}
 
 -- ---- the lines before line k, of which those from j on are left

@@ -18,9 +18,10 @@ use Rattle.routes.specs.Places.{Every}
 use Rattle.routes.specs.Sources.{recordAt, inUse}
 use Rattle.routes.specs.declared.Sources.{Sources}
 use Rattle.routes.proofs.Lines.{length-lines}
-use Rattle.selection.specs.Pick.{Pick, refusedBy, picked, pickOf, newRecords, newBytes, filePick, sourcesFor, pickedAs, stored, padded}
+use Rattle.selection.specs.Pick.{Pick, refusedBy, picked, pickOf, newRecords, newBytes, filePick, pickedAs, stored, padded}
 use Rattle.selection.specs.declared.Picked.{Picked}
-use Rattle.selection.proofs.MemberLaws.{in-use-length}
+use Rattle.applying.specs.Bounds.{sourcesFor}
+use Rattle.applying.proofs.BoundLaws.{in-use-length}
 use Rattle.selection.proofs.Demand.{picked-demand}
 
 -- ---- one turn: the record at i is stored behind those before it

@@ -19,9 +19,9 @@ use Rattle.history.proofs.Closure.{last-within}
 use Rattle.history.proofs.Statements.{fewest, only-fewest}
 use Rattle.corrections.specs.Reading.{Entry, said, indexOf}
 use Rattle.corrections.specs.declared.Index.{Index}
-use Rattle.selection.specs.Apply.{entryAt, entriesFrom}
-use Rattle.selection.specs.Run.{byCorrection, marked}
-use Rattle.selection.specs.Procedures.{procedures, operation, operations}
+use Rattle.applying.specs.Apply.{entryAt, entriesFrom}
+use Rattle.applying.specs.Run.{byCorrection, marked}
+use Rattle.applying.specs.Procedures.{procedures, operation, operations}
 use Rattle.selection.specs.Reliance.{lastBefore, reliedBy, reliances, namedBy, Relies, Reach, here, step, In, Taken}
 use Rattle.selection.specs.Pick.{wantedStage, wants}
 use Rattle.selection.proofs.GroupLaws.{flat, Grouped, Stands, stands, line-of, grouped-at, all-at, ByCorrection}

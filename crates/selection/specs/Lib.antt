@@ -1,8 +1,3 @@
 -- What the contracts of this crate cite.
-pub mod State
-pub mod Apply
-pub mod Correct
-pub mod Run
-pub mod Procedures
 pub mod Reliance
 pub mod Pick

@@ -20,9 +20,10 @@ use Rattle.routes.specs.InTurn.{inTurn}
 use Rattle.routes.specs.Legal.{lines}
 use Rattle.routes.specs.Sources.{recordAt, records, sourcesOf, inUse}
 use Rattle.routes.specs.declared.Sources.{Sources}
-use Rattle.selection.specs.Correct.{Outcome, stopped, reached}
-use Rattle.selection.specs.Run.{byCorrection, ran}
-use Rattle.selection.specs.Procedures.{procedures, operations}
+use Rattle.applying.specs.Bounds.{sourcesFor}
+use Rattle.applying.specs.Correct.{Outcome, stopped, reached}
+use Rattle.applying.specs.Run.{byCorrection, ran}
+use Rattle.applying.specs.Procedures.{procedures, operations}
 use Rattle.selection.specs.declared.Picked.{Picked}
 use Rattle.selection.specs.declared.carry.Members.{Members}
 
@@ -141,9 +142,6 @@ module _ (frozen log : List ℕ) where
   filePick lent ws = cond (ltb lent 63840) (refusedBy bufferTooShort) (pickOf ws)
 
 -- ---- as the code gives it: zeros past the counts, and nothing but zeros on a refusal
-
-unfoldable pub sourcesFor : List ℕ → Sources
-sourcesFor xs = record { count = length xs; at = xs ++ replicate (480 - length xs) 0 }
 
 unfoldable pub pickedAs : Pick → Picked
 pickedAs (refusedBy r) = record { verdict = Refused r; count = 0; taken = replicate 200 0; records = sourcesFor [] }

@@ -12,7 +12,7 @@ use Rattle.slices.specs.Order.{equal}
 use Rattle.routes.specs.Places.{keyOf}
 use Rattle.corrections.specs.Reading.{Entry}
 use Rattle.corrections.specs.declared.Index.{Index}
-use Rattle.selection.specs.Apply.{entryAt, entriesFrom, recordOf}
+use Rattle.applying.specs.Apply.{entryAt, entriesFrom, recordOf}
 
 -- ---- one line
 

@@ -4,9 +4,8 @@ ghost use mathlib.Core.Path.{_≡_};
 ghost use mathlib.Core.Bool.{cond};
 ghost use mathlib.Core.List.{[], _∷_};
 ghost use Prim.Native.Nat.{_+_, _≤_, _<_};
-ghost use Rattle.routes.specs.Sources.{inUse};
-ghost use Rattle.selection.specs.Apply.{entriesFrom};
-ghost use Rattle.selection.specs.Run.{marked};
+ghost use Rattle.applying.specs.Apply.{entriesFrom};
+ghost use Rattle.applying.specs.Run.{marked};
 ghost use Rattle.selection.specs.Pick.{
   Reads,
   everything,
@@ -19,7 +18,6 @@ ghost use Rattle.selection.specs.Pick.{
   picked,
   carried,
   pickFrom,
-  sourcesFor,
   pickedAs,
 };
 ghost use Rattle.corrections.specs.Reading.{said};
@@ -27,8 +25,8 @@ use crate::Picked;
 use crate::opening::within;
 use crate::relied::reliances;
 use crate::relied::taken;
-use crate::run::is_marked;
-use crate::run::run;
+use applying::is_marked;
+use applying::run;
 use corrections::Index;
 use refusals::Refusal;
 use refusals::Verdict;
@@ -54,20 +52,6 @@ pub(crate) fn refused_pick(refusal: Refusal) -> Picked
             at: [0u32; 480],
         },
     }
-}
-
-// The state with zeros past the sources that count.
-fn cleared(state: Sources) -> Sources
-    requires { ⌜ state .count ≤ 480 ⌝ }
-    ensures { λ r. ⌜ r ≡ sourcesFor (inUse state) ⌝ }
-{
-    let mut next = state;
-    let mut k = state.count;
-    while k < 480 {
-        next.at[k] = 0;
-        k += 1;
-    }
-    next
 }
 
 // The numbers with one more behind them, if it is marked.
@@ -131,8 +115,7 @@ fn carry<'a>(frozen: &'a [u8], log: &'a [u8], index: Index, marks: &[u8]) -> Pic
     }
     let total = index.corrections;
     let members = members_of(marks, total);
-    let left = new.state;
-    let records = cleared(left);
+    let records = new.records;
     let numbers = members.at;
     Picked {
         verdict: Verdict::Accepted,

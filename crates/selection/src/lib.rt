@@ -3,15 +3,10 @@
 //
 // Where a log has L lines and the file, at its largest, R records, a pick costs no more than L times R comparisons of 25 bytes, and L times
 // R records judged where every correction is on one route.
-mod apply;
 mod carry;
-mod correct;
 mod file;
-mod judge;
 mod opening;
 mod relied;
-mod run;
-mod state;
 
 ghost use mathlib.Core.Path.{_≡_};
 ghost use lib.ListN.{length};

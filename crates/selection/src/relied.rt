@@ -7,9 +7,9 @@ ghost use mathlib.Core.Bool.{cond};
 ghost use mathlib.Core.List.{_++_};
 ghost use Prim.Native.Nat.{_-_, _≤_, _<_};
 ghost use lib.ListN.{replicate};
-ghost use Rattle.selection.specs.Apply.{Within};
+ghost use Rattle.applying.specs.Apply.{Within};
 ghost use Rattle.selection.specs.Reliance.{reliedBy, reliances, namedBy, Marked, Taken};
-use crate::judge::same_route;
+use applying::same_route;
 use corrections::Index;
 
 // The later of what was found and the correction of one more line, where that line counts.

@@ -1,6 +1,5 @@
 -- A law for each way that it ends. Assumes nothing.
-use Rattle.routes.proofs.SourceLaws.{own-count}
-use Rattle.selection.proofs.CarryLaws.{index-few, index-within, corrections-few, carry-refused, carry-count, carry-stands}
+use Rattle.selection.proofs.CarryLaws.{corrections-few, carry-refused, carry-stands}
 use borrow.Author.Needs.{needs}
 use Rattle.selection.proofs.carry.carry.Statement.{statement}
 use Rattle.selection.proofs.carry.carry.Tie as tie
@@ -9,9 +8,7 @@ sources-of-requires : tie.Need-sources-of-requires
 sources-of-requires c κs = search needs
 
 run-requires : tie.Need-run-requires
-run-requires c κs =
-    let r = c .before .before .before .before .pre in
-    (own-count _ (c .sources-of .ensures) .1, index-few _ _ r, index-within _ _ r)
+run-requires c κs = search needs
 
 enum-told : tie.Need-enum-told
 enum-told c = search needs
@@ -25,22 +22,16 @@ refused-pick-requires c κs = search needs
 returns : tie.Need-returns
 returns c =
     let ran = c .before .before .before .before in
-    carry-refused _ _ _ _ _ _ (ran .before .sources-of .ensures) (ran .run .ensures) (c .before .before .verdict .given .1) (c .refused-pick .ensures)
+    carry-refused _ _ _ _ (ran .before .before .before .before .before .pre) (ran .before .sources-of .ensures) _ (ran .run .ensures) (c .before .before .verdict .given .1) (c .refused-pick .ensures)
 
 members-of-requires : tie.Need-members-of-requires
 members-of-requires c κs = corrections-few _ _ (c .before .before .before .before .before .before .before .pre)
 
-cleared-requires : tie.Need-cleared-requires
-cleared-requires c κs =
-    let told = c .before .before in
-    let ran = told .before .before in
-    carry-count _ _ _ _ _ _ (ran .before .sources-of .ensures) (ran .run .ensures) (told .enum-told .given .1)
-
 returns-2 : tie.Need-returns-2
 returns-2 c =
-    let told = c .before .before .before .before in
+    let told = c .before .before .before in
     let ran = told .before .before in
-    carry-stands _ _ _ _ _ _ (ran .before .sources-of .ensures) (ran .run .ensures) (told .enum-told .given .1) (c .before .before .before .members-of .ensures) (c .before .cleared .ensures)
+    carry-stands _ _ _ _ (ran .before .before .before .before .before .pre) (ran .before .sources-of .ensures) _ (ran .run .ensures) (told .enum-told .given .1) (c .before .before .members-of .ensures)
 
 pub carry-spec : {M : Type 1} → statement M
 carry-spec =
@@ -53,5 +44,4 @@ carry-spec =
     refused-pick-requires
     returns
     members-of-requires
-    cleared-requires
     returns-2)

@@ -1,5 +1,5 @@
 -- The invariant: the numbers that are left, behind those that were found, are the answer. Assumes nothing.
-use Rattle.selection.specs.Run.{marked}
+use Rattle.applying.specs.Run.{marked}
 use Rattle.selection.specs.Pick.{membersFrom, listed}
 use Prim.Native.Nat.{_≤_, _-_}
 use mathlib.Core.Path.{_≡_, refl}

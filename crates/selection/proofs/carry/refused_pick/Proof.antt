@@ -1,6 +1,7 @@
 -- Put together as the definition says. Assumes nothing.
 use mathlib.Core.Path.{refl}
-use Rattle.selection.specs.Pick.{sourcesFor, pickedAs}
+use Rattle.applying.specs.Bounds.{sourcesFor}
+use Rattle.selection.specs.Pick.{pickedAs}
 use borrow.Author.Needs.{needs}
 use Rattle.selection.proofs.carry.refused_pick.Statement.{statement}
 use Rattle.selection.proofs.carry.refused_pick.Tie as tie

@@ -1,5 +1,5 @@
 -- Marked or not. Assumes nothing.
-use Rattle.selection.proofs.ApplyLaws.{not-done, is-done}
+use Rattle.applying.proofs.ApplyLaws.{not-done, is-done}
 use Rattle.selection.proofs.MemberLaws.{grown-none, grown-one}
 use borrow.Author.Needs.{needs}
 use Rattle.selection.proofs.carry.with_number.Statement.{statement}

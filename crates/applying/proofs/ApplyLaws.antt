@@ -1,0 +1,77 @@
+-- Laws of lines applied one after the other, as the loop that applies them asks for them.
+-- Assumes nothing.
+use mathlib.Core.Path.{_≡_, refl, sym, ap, subst, _∙_}
+use mathlib.Core.Bool.{Bool, true, false, not, cond, false≢true}
+use mathlib.Core.List.{List, [], _∷_}
+use mathlib.Core.Option.{Option, some, none, bind}
+use Prim.Native.Nat.{ℕ, zero, suc, _+_, _-_, _≤_, _<_}
+use Prim.Native.Char.{code}
+use native.Mathlib.Omega.{arith}
+use borrow.Author.Tests.{ne-eqb}
+use Rattle.slices.proofs.PartLaws.{one-less}
+use Rattle.corrections.specs.Reading.{Entry, entry}
+use Rattle.corrections.specs.declared.Index.{Index}
+use Rattle.routes.specs.Sources.{recordAt, inUse}
+use Rattle.routes.specs.declared.Sources.{Sources}
+use Rattle.applying.specs.State.{withSource, withoutRecord, Gives, made, failed}
+use Rattle.applying.specs.Apply.{entryAt, entriesFrom, lineApplied, linesApplied}
+use Rattle.applying.specs.declared.state.Change.{Change}
+
+-- ---- one line
+
+module _ (f l : List ℕ) (letter at n : ℕ) (xs : List ℕ) (c : Change) where
+  pub line-out : (rec : List ℕ) → letter ≡ code "D" → rec ≡ recordAt f l (1000000 + at) → Gives c (withoutRecord f l rec xs) → Gives c (lineApplied f l (entry letter at n) xs)
+  unfolding lineApplied
+  line-out rec h e g = rw (h, ← e) g
+
+  pub line-in : (letter ≡ code "D" → ⊥) → Gives c (withSource f l (1000000 + at) xs) → Gives c (lineApplied f l (entry letter at n) xs)
+  unfolding lineApplied
+  line-in h g = rw (ne-eqb letter (code "D") h) g
+
+-- ---- what a change gave
+
+pub not-done : (b : Bool) → not b ≡ true → b ≡ false
+not-done true e = sym e
+not-done false e = refl
+
+pub is-done : (b : Bool) → not b ≡ false → b ≡ true
+is-done true e = refl
+is-done false e = sym e
+
+pub gave-none : (c : Change) (o : Option (List ℕ)) → Gives c o → c .done ≡ false → o ≡ none
+gave-none c _ (made t n e) d = absurd (false≢true (sym d ∙ t))
+gave-none c _ (failed t) d = refl
+
+pub gave-some : (c : Change) (o : Option (List ℕ)) → Gives c o → c .done ≡ true → (o ≡ some (inUse (c .state))) × (c .state .count ≤ 480)
+gave-some c _ (made t n e) d = (ap some (sym e), n)
+gave-some c _ (failed t) d = absurd (false≢true (sym t ∙ d))
+
+-- ---- the lines that are left
+
+module _ (f l : List ℕ) (index : Index) (k to : ℕ) where
+  lines-next : (xs : List ℕ) → k < to
+      → linesApplied f l (entriesFrom index k (to - k)) xs ≡ bind (lineApplied f l (entryAt index k) xs) (linesApplied f l (entriesFrom index (k + 1) (to - (k + 1))))
+  unfolding linesApplied entriesFrom
+  lines-next xs h = rw (one-less to k h)
+
+  lines-end : (xs : List ℕ) → to ≤ k → linesApplied f l (entriesFrom index k (to - k)) xs ≡ some xs
+  unfolding linesApplied entriesFrom
+  lines-end xs h = let e : to - k ≡ 0 = omega arith in rw e
+
+  module _ (whole : Option (List ℕ)) (now : Sources) (w : whole ≡ linesApplied f l (entriesFrom index k (to - k)) (inUse now)) where
+    pub lines-done : (c : Change) → to ≤ k → now .count ≤ 480 → c .done ≡ true → c .state ≡ now → Gives c whole
+    lines-done c h n d e =
+        subst (Gives c) (sym (w ∙ lines-end (inUse now) h)) (made d (subst (λ (s : Sources). s .count ≤ 480) (sym e) n) (ap inUse e))
+
+    module _ (h : k < to) (c : Change) (g : Gives c (lineApplied f l (entryAt index k) (inUse now))) where
+      pub lines-failed : c .done ≡ false → Gives c whole
+      unfolding bind
+      lines-failed d =
+          let z : whole ≡ none = w ∙ lines-next (inUse now) h ∙ ap (λ (o : Option (List ℕ)). bind o (linesApplied f l (entriesFrom index (k + 1) (to - (k + 1))))) (gave-none c _ g d) in
+          subst (Gives c) (sym z) (failed d)
+
+      pub lines-go-on : c .done ≡ true → (c .state .count ≤ 480) × (whole ≡ linesApplied f l (entriesFrom index (k + 1) (to - (k + 1))) (inUse (c .state)))
+      unfolding bind
+      lines-go-on d =
+          let s = gave-some c _ g d in
+          (s .1, w ∙ lines-next (inUse now) h ∙ ap (λ (o : Option (List ℕ)). bind o (linesApplied f l (entriesFrom index (k + 1) (to - (k + 1))))) (s .0))

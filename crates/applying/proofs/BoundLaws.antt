@@ -1,0 +1,140 @@
+-- Laws of a run over any index and any sources: its bounds, and a law for each way that it ends.
+-- Assumes nothing.
+use mathlib.Core.Path.{_≡_, refl, sym, ap, ap₂, subst, _∙_}
+use mathlib.Core.Bool.{Bool, true, false, cond, _&&_, false≢true}
+use mathlib.Core.List.{List, [], _∷_, _++_}
+use Prim.Native.Nat.{ℕ, zero, suc, _+_, _-_, _≤_, _<_}
+use native.Mathlib.Omega.{arith}
+use native.Mathlib.Numerals.{add-one}
+use lib.Dec.{leb}
+use lib.ListN.{length, getD, take, drop, replicate, drop-of-length-le, List·getD-eq-default}
+use lib.Seq.{length-take-le, drop-cons}
+use borrow.Author.Tests.{le-leb, lt-leb, leb-true, leb-false}
+use Rattle.slices.proofs.Cases.{split, and-left, and-right, both}
+use Rattle.slices.proofs.WriteLaws.{cleared}
+use Rattle.refusals.specs.Table.{tooManyRecords, logTooLong}
+use Rattle.refusals.specs.declared.Refusal.{Refusal}
+use Rattle.refusals.specs.declared.Verdict.{Verdict}
+use Rattle.refusals.specs.declared.Verdict.the-variants.{Accepted, Refused}
+use Rattle.corrections.specs.declared.Index.{Index}
+use Rattle.routes.specs.InTurn.{inTurn}
+use Rattle.routes.specs.Sources.{inUse}
+use Rattle.routes.specs.declared.Sources.{Sources}
+use Rattle.routes.proofs.InTurnLaws.{never}
+use Rattle.history.specs.Sets.{Numbers}
+use Rattle.applying.specs.Apply.{Within, entriesFrom}
+use Rattle.applying.specs.Correct.{Outcome, stopped, reached, Comes}
+use Rattle.applying.specs.Run.{byCorrection, ran}
+use Rattle.applying.specs.Bounds.{allWithin, boundStage, bounded, ranOver, sourcesFor, ranAs}
+use Rattle.applying.specs.declared.Ran.{Ran}
+use Rattle.applying.specs.declared.correct.Corrected.{Corrected}
+use Rattle.applying.proofs.RunLaws.{came-refused, came-stands}
+
+-- ---- zeros past the sources that count
+
+pub in-use-length : (s : Sources) → s .count ≤ 480 → length (s .at) ≡ 480 → length (inUse s) ≡ s .count
+unfolding inUse
+in-use-length s h n = length-take-le (s .count) (s .at) (omega arith)
+
+pub all-cleared : (s next : Sources) → s .count ≤ 480 → length (s .at) ≡ 480 → next .count ≡ s .count → next .at ≡ cleared (s .at) (s .count) → next ≡ sourcesFor (inUse s)
+unfolding sourcesFor inUse cleared
+all-cleared s next h n c a =
+    let m : length (take (s .count) (s .at)) ≡ s .count = length-take-le (s .count) (s .at) (omega arith) in
+    ap₂ (λ (x : ℕ) (xs : List ℕ). record { count = x; at = xs }) (c ∙ sym m)
+    (a ∙ ap (λ (k : ℕ). take (s .count) (s .at) ++ replicate k 0) (let e : length (s .at) - s .count ≡ 480 - length (take (s .count) (s .at)) = omega arith in e))
+
+-- ---- the bounds
+
+within-all : (xs : List ℕ) → allWithin xs ≡ true → (k : ℕ) → getD xs k 0 ≤ 60000
+unfolding allWithin
+within-all [] e k = omega arith
+within-all (x ∷ xs) e zero = leb-true x 60000 (and-left (leb x 60000) (allWithin xs) e)
+within-all (x ∷ xs) e (suc k) = within-all xs (and-right (leb x 60000) (allWithin xs) e) k
+
+all-within : (xs : List ℕ) → ((k : ℕ) → getD xs k 0 ≤ 60000) → allWithin xs ≡ true
+unfolding allWithin
+all-within [] h = refl
+all-within (x ∷ xs) h = both (le-leb x 60000 (h 0)) (all-within xs (λ k. h (suc k)))
+
+module _ (index : Index) (state : Sources) where
+  pub bound-state : {r : Refusal} → 480 < state .count → r ≡ tooManyRecords → Refused r ≡ boundStage index state
+  unfolding boundStage inTurn
+  bound-state h e = rw (lt-leb (state .count) 480 h, e)
+
+  module _ (h : state .count ≤ 480) where
+    pub bound-lines : {r : Refusal} → 444 < index .count → r ≡ logTooLong → Refused r ≡ boundStage index state
+    unfolding boundStage inTurn
+    bound-lines k e = rw (le-leb (state .count) 480 h, lt-leb (index .count) 444 k, e)
+
+    module _ (k : index .count ≤ 444) where
+      judged : (b : Bool) → allWithin (index .at) ≡ b → cond b Accepted (Refused logTooLong) ≡ boundStage index state
+      unfolding boundStage inTurn
+      judged true e = rw (le-leb (state .count) 480 h, le-leb (index .count) 444 k, e)
+      judged false e = rw (le-leb (state .count) 480 h, le-leb (index .count) 444 k, e)
+
+      -- the offsets from i on are left
+      pub bound-past : {r : Refusal} (i : ℕ) → allWithin (index .at) ≡ allWithin (drop i (index .at)) → i < length (index .at) → 60000 < getD (index .at) i 0 → r ≡ logTooLong
+          → Refused r ≡ boundStage index state
+      unfolding allWithin
+      bound-past i w l g e =
+          ap Refused e ∙ judged false (w ∙ ap allWithin (drop-cons (index .at) i 0 l) ∙ ap (λ (b : Bool). b && allWithin (drop (suc i) (index .at))) (lt-leb (getD (index .at) i 0) 60000 g))
+
+      pub bound-holds : (i : ℕ) → allWithin (index .at) ≡ allWithin (drop i (index .at)) → length (index .at) ≤ i → Accepted ≡ boundStage index state
+      unfolding allWithin
+      bound-holds i w l = judged true (w ∙ ap allWithin (drop-of-length-le (index .at) l))
+
+pub bound-next : (xs : List ℕ) (i : ℕ) → allWithin xs ≡ allWithin (drop i xs) → i < length xs → getD xs i 0 ≤ 60000 → allWithin xs ≡ allWithin (drop (i + 1) xs)
+unfolding allWithin
+bound-next xs i w l g =
+    w ∙ ap allWithin (drop-cons xs i 0 l) ∙ ap (λ (b : Bool). b && allWithin (drop (suc i) xs)) (le-leb (getD xs i 0) 60000 g)
+    ∙ ap (λ (j : ℕ). allWithin (drop j xs)) (let e : suc i ≡ i + 1 = omega arith in e)
+
+-- what holds of an index and of sources that pass
+pub record Bound (index : Index) (state : Sources) : Type 0 where
+  pub records : state .count ≤ 480
+  pub lines : index .count ≤ 444
+  pub within : Within index
+
+pub passed : (index : Index) (state : Sources) → Accepted ≡ boundStage index state → Bound index state
+unfolding boundStage inTurn
+passed index state e = by (leb (state .count) 480) refl (leb (index .count) 444) refl (allWithin (index .at)) refl e
+  where
+    by : (a : Bool) → leb (state .count) 480 ≡ a → (b : Bool) → leb (index .count) 444 ≡ b → (c : Bool) → allWithin (index .at) ≡ c
+        → Accepted ≡ inTurn (cond a Accepted (Refused tooManyRecords) ∷ cond (b && c) Accepted (Refused logTooLong) ∷ []) → Bound index state
+    by true p true q true s h = record { records = leb-true (state .count) 480 p; lines = leb-true (index .count) 444 q; within = within-all (index .at) s }
+    by true p true q false s h = absurd (never (sym h))
+    by true p false q c s h = absurd (never (sym h))
+    by false p b q c s h = absurd (never (sym h))
+
+pub passes : (index : Index) (state : Sources) → Bound index state → boundStage index state ≡ Accepted
+unfolding boundStage inTurn
+passes index state b = rw (le-leb (state .count) 480 (b .records), le-leb (index .count) 444 (b .lines), all-within (index .at) (b .within))
+
+-- ---- the run
+
+module _ (f l : List ℕ) (T : Numbers) (index : Index) (state : Sources) {v : Verdict} (e : v ≡ boundStage index state) where
+  whole : Outcome
+  whole = ran f l T 1 (byCorrection 1 (index .corrections) (entriesFrom index 0 (index .count))) (inUse state)
+
+  pub run-unbounded : {r : Refusal} {x : Ran} → v ≡ Refused r → x ≡ ranAs (stopped r) → x ≡ ranAs (ranOver f l T index state)
+  unfolding ranOver
+  run-unbounded q g = g ∙ rw (sym e ∙ q)
+
+  module _ (a : v ≡ Accepted) where
+    module _ (c : Corrected) (g : Comes c (ran f l T 1 (byCorrection 1 (index .corrections) (entriesFrom index 0 (index .count))) (inUse state))) where
+      pub run-refused : {r : Refusal} {x : Ran} → c .verdict ≡ Refused r → x ≡ ranAs (stopped r) → x ≡ ranAs (ranOver f l T index state)
+      unfolding ranOver
+      run-refused q z = z ∙ rw (sym e ∙ a) (ap ranAs (sym (came-refused c _ g q)))
+
+      pub run-count : c .verdict ≡ Accepted → c .state .count ≤ 480
+      run-count q = came-stands c _ g q .1
+
+      pub run-stands : {s : Sources} → c .verdict ≡ Accepted → s ≡ sourcesFor (inUse (c .state)) → record { verdict = Accepted; records = s } ≡ ranAs (ranOver f l T index state)
+      unfolding ranOver ranAs
+      run-stands q z = ap (λ (x : Sources). record { verdict = Accepted; records = x }) z ∙ rw (sym e ∙ a) (ap ranAs (sym (came-stands c _ g q .0)))
+
+-- over what a log and a file have, nothing is refused for its bounds
+pub ran-bound : (f l : List ℕ) (T : Numbers) (index : Index) (state : Sources) → Bound index state
+    → ranOver f l T index state ≡ ran f l T 1 (byCorrection 1 (index .corrections) (entriesFrom index 0 (index .count))) (inUse state)
+unfolding ranOver
+ran-bound f l T index state b = rw (passes index state b)

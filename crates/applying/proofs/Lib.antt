@@ -1,0 +1,13 @@
+-- The laws of this crate; Bridge ties what is run to the theory of selection.
+mod ShiftLaws
+mod StateLaws
+pub mod ApplyLaws
+mod JudgeLaws
+mod CorrectLaws
+mod RunLaws
+pub mod BoundLaws
+pub mod Procedures
+pub mod Kept
+pub mod PlacedLaws
+pub mod TouchedLaws
+pub mod Bridge

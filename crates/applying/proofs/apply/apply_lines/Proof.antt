@@ -1,0 +1,76 @@
+-- The invariant: the lines that are left, applied to the state so far, give the answer. Assumes nothing.
+use Rattle.applying.specs.Apply.{entriesFrom, linesApplied}
+use Rattle.routes.specs.Sources.{inUse}
+use Prim.Native.Nat.{_≤_, _-_}
+use mathlib.Core.Path.{_≡_, refl}
+use Rattle.applying.proofs.ApplyLaws.{lines-done, lines-failed, lines-go-on, not-done, is-done}
+use borrow.Author.Needs.{needs}
+use Rattle.applying.proofs.apply.apply_lines.Statement.{statement}
+use Rattle.applying.proofs.apply.apply_lines.Tie as tie
+
+abbrev Inv-loop : tie.InvT-loop
+Inv-loop frozen log from to index now₀ k₀ now k = (now .count ≤ 480) × (linesApplied frozen log (entriesFrom index from (to - from)) (inUse now₀) ≡ linesApplied frozen log (entriesFrom index k (to - k)) (inUse now))
+
+abbrev μ-loop : tie.MeasureT-loop
+μ-loop frozen log from to index now₀ k₀ now k = to - k
+
+loop-holds : tie.Need-loop-holds Inv-loop μ-loop
+loop-holds c = (c .before .before .pre .0, refl)
+
+element-copy-out-letter : tie.Need-element-copy-out-letter Inv-loop μ-loop
+element-copy-out-letter c = search needs
+
+mul-at : tie.Need-mul-at Inv-loop μ-loop
+mul-at c = search needs
+
+element-copy-out-at : tie.Need-element-copy-out-at Inv-loop μ-loop
+element-copy-out-at c = search needs
+
+mul-n : tie.Need-mul-n Inv-loop μ-loop
+mul-n c = search needs
+
+element-copy-out-n : tie.Need-element-copy-out-n Inv-loop μ-loop
+element-copy-out-n c = search needs
+
+apply-line-requires : tie.Need-apply-line-requires Inv-loop μ-loop
+apply-line-requires c κs =
+    let turn = c .before .before .before in
+    (turn .before .loop .inv .0, turn .before .before .before .before .pre .2 _)
+
+returns : tie.Need-returns Inv-loop μ-loop
+returns c =
+    let turn = c .before .before .before .before .before .before in
+    lines-failed _ _ _ _ _ _ _ (turn .before .loop .inv .1) (turn .loop-test .taken) _ (c .before .before .apply-line .ensures) (not-done _ (c .if1 .taken))
+
+add-k : tie.Need-add-k Inv-loop μ-loop
+add-k c = search needs
+
+loop-less : tie.Need-loop-less Inv-loop μ-loop
+loop-less c = search needs
+
+loop-again : tie.Need-loop-again Inv-loop μ-loop
+loop-again c =
+    let turn = c .before .before .before .before .before .before .before in
+    lines-go-on _ _ _ _ _ _ _ (turn .before .loop .inv .1) (turn .loop-test .taken) _ (c .before .before .before .apply-line .ensures) (is-done _ (c .before .if1 .left))
+
+returns-2 : tie.Need-returns-2 Inv-loop μ-loop
+returns-2 c = lines-done _ _ _ _ _ _ _ (c .before .loop .inv .1) _ (c .loop-test .left) (c .before .loop .inv .0) refl refl
+
+pub apply-lines-spec : {M : Type 1} → statement M
+apply-lines-spec =
+    tie.close
+    (tie.spec
+    Inv-loop
+    μ-loop
+    loop-holds
+    element-copy-out-letter
+    mul-at
+    element-copy-out-at
+    mul-n
+    element-copy-out-n
+    apply-line-requires
+    returns
+    add-k
+    loop-less
+    loop-again
+    returns-2)

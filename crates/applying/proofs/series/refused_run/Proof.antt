@@ -1,0 +1,13 @@
+-- Put together as the definition says. Assumes nothing.
+use mathlib.Core.Path.{refl}
+use Rattle.applying.specs.Bounds.{sourcesFor, ranAs}
+use borrow.Author.Needs.{needs}
+use Rattle.applying.proofs.series.refused_run.Statement.{statement}
+use Rattle.applying.proofs.series.refused_run.Tie as tie
+
+returns : tie.Need-returns
+unfolding ranAs sourcesFor
+returns c = refl
+
+pub refused-run-spec : {M : Type 1} → statement M
+refused-run-spec = tie.close (tie.spec returns)

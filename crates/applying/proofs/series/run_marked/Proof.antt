@@ -1,0 +1,95 @@
+-- The invariant: the corrections that are left, over the state so far, give the answer. Assumes nothing.
+use Rattle.applying.specs.Run.{byCorrection, ran, marked}
+use Rattle.applying.specs.Apply.{entriesFrom}
+use Rattle.routes.specs.Sources.{inUse}
+use Prim.Native.Nat.{_+_, _≤_, _-_}
+use mathlib.Core.Path.{_≡_, refl}
+use Rattle.applying.proofs.RunLaws.{left, run-starts, run-ends, run-stops, run-goes-on}
+use borrow.Author.Needs.{needs}
+use native.Mathlib.Omega.{arith}
+use Rattle.applying.proofs.series.run_marked.Statement.{statement}
+use Rattle.applying.proofs.series.run_marked.Tie as tie
+
+abbrev Inv-loop : tie.InvT-loop
+Inv-loop frozen log index marks state total now₀ k₀ n₀ now k n = (now .count ≤ 480) × (k ≤ index .count) × (total ≡ index .corrections) × (ran frozen log (marked marks) 1 (byCorrection 1 (index .corrections) (entriesFrom index 0 (index .count))) (inUse state) ≡ ran frozen log (marked marks) (n + 1) (left index n total k) (inUse now))
+
+abbrev μ-loop : tie.MeasureT-loop
+μ-loop frozen log index marks state total now₀ k₀ n₀ now k n = total - n
+
+loop-holds : tie.Need-loop-holds Inv-loop μ-loop
+loop-holds c = let pre = c .before .before .before .pre in (pre .0, omega arith, refl, run-starts _ _ _ _ _ _)
+
+add-lines-end : tie.Need-add-lines-end Inv-loop μ-loop
+add-lines-end c = search needs
+
+lines-end-requires : tie.Need-lines-end-requires Inv-loop μ-loop
+lines-end-requires c κs = (c .before .before .before .before .before .pre .1, c .before .loop .inv .1)
+
+add-is-marked : tie.Need-add-is-marked Inv-loop μ-loop
+add-is-marked c = search needs
+
+is-marked-requires : tie.Need-is-marked-requires Inv-loop μ-loop
+is-marked-requires c κs = search needs
+
+add-correct-if : tie.Need-add-correct-if Inv-loop μ-loop
+add-correct-if c = search needs
+
+correct-if-requires : tie.Need-correct-if-requires Inv-loop μ-loop
+correct-if-requires c κs =
+    let pre = c .before .before .before .before .before .before .before .pre in
+    (c .before .before .before .loop .inv .0, omega (arith, pre .1, c .before .lines-end .ensures .1), pre .2)
+
+enum-told : tie.Need-enum-told Inv-loop μ-loop
+enum-told c = search needs
+
+enum-known-verdict : tie.Need-enum-known-verdict Inv-loop μ-loop
+enum-known-verdict c = search needs
+
+returns : tie.Need-returns Inv-loop μ-loop
+returns c =
+    let one = c .before .before .before in
+    let lines = one .before .before in
+    let turn = lines .before in
+    let inv = turn .before .loop .inv in
+    run-stops _ _ _ _ _ _ _ _ _ (inv .3) (turn .loop-test .taken) (lines .lines-end .ensures .0) (inv .1) (one .before .is-marked .ensures) _ (one .correct-if .ensures) (c .before .verdict .given .1) _ refl
+
+add-n : tie.Need-add-n Inv-loop μ-loop
+add-n c = search needs
+
+loop-less : tie.Need-loop-less Inv-loop μ-loop
+loop-less c = search needs
+
+loop-again : tie.Need-loop-again Inv-loop μ-loop
+loop-again c =
+    let one = c .before .before .before in
+    let lines = one .before .before in
+    let turn = lines .before in
+    let inv = turn .before .loop .inv in
+    let on = run-goes-on _ _ _ _ _ _ _ _ _ (inv .3) (turn .loop-test .taken) (lines .lines-end .ensures .0) (inv .1) (one .before .is-marked .ensures) _ (one .correct-if .ensures) (c .before .enum-told .given .1) in
+    (on .0, lines .lines-end .ensures .1, inv .2, on .1)
+
+returns-2 : tie.Need-returns-2 Inv-loop μ-loop
+returns-2 c =
+    let inv = c .before .loop .inv in
+    run-ends _ _ _ _ _ _ _ _ _ (inv .3) (c .loop-test .left) (inv .0) _ refl refl
+
+pub run-marked-spec : {M : Type 1} → statement M
+run-marked-spec =
+    tie.close
+    (tie.spec
+    Inv-loop
+    μ-loop
+    loop-holds
+    add-lines-end
+    lines-end-requires
+    add-is-marked
+    is-marked-requires
+    add-correct-if
+    correct-if-requires
+    enum-told
+    enum-known-verdict
+    returns
+    add-n
+    loop-less
+    loop-again
+    returns-2)

@@ -1,0 +1,70 @@
+-- A correction applied to the records of a file, by their sources: its lines in order, then the routes that its lines name.
+-- Assumes nothing.
+use Prim.Native.Nat.{ℕ, zero, suc, _+_, _≤_}
+use Prim.Native.Char.{code}
+use mathlib.Core.Bool.{Bool, false, cond, _||_}
+use mathlib.Core.List.{List, [], _∷_, map}
+use mathlib.Core.Option.{Option, some, none, bind}
+use lib.Dec.{eqb}
+use lib.ListN.{getD, take}
+use Rattle.slices.specs.Order.{equal}
+use Rattle.refusals.specs.declared.Verdict.{Verdict}
+use Rattle.refusals.specs.declared.Verdict.the-variants.{Accepted, Refused}
+use Rattle.corrections.specs.Reading.{Entry, entry}
+use Rattle.corrections.specs.declared.Index.{Index}
+use Rattle.routes.specs.InTurn.{inTurn}
+use Rattle.routes.specs.Places.{keyOf}
+use Rattle.routes.specs.Sources.{recordAt}
+use Rattle.routes.specs.Walk.{walked}
+use Rattle.applying.specs.State.{withSource, withoutRecord}
+
+-- the lines of an index: the one at k, and n of them from k on
+abbrev pub entryAt : Index → ℕ → Entry
+entryAt index k = entry (getD (index .kind) k 0) (getD (index .at) k 0) (getD (index .correction) k 0)
+
+unfoldable pub entriesFrom : Index → (k n : ℕ) → List Entry
+entriesFrom index k zero = []
+entriesFrom index k (suc n) = entryAt index k ∷ entriesFrom index (k + 1) n
+
+-- every line lies within the longest log
+abbrev pub Within : Index → Type 0
+Within index = (k : ℕ) → getD (index .at) k 0 ≤ 60000
+
+-- where a line's record lies
+abbrev pub sourceOf : Entry → ℕ
+sourceOf e = 1000000 + e .at
+
+module _ (frozen log : List ℕ) where
+  abbrev pub recordOf : Entry → List ℕ
+  recordOf e = recordAt frozen log (sourceOf e)
+
+  -- "D: that record, byte for byte, is taken out. A: it's put in by its place."
+  unfoldable pub lineApplied : Entry → List ℕ → Option (List ℕ)
+  lineApplied e xs = cond (eqb (e .letter) (code "D")) (withoutRecord frozen log (recordOf e) xs) (withSource frozen log (sourceOf e) xs)
+
+  -- "Lines apply in order"
+  unfoldable pub linesApplied : List Entry → List ℕ → Option (List ℕ)
+  linesApplied [] xs = some xs
+  linesApplied (e ∷ es) xs = bind (lineApplied e xs) (linesApplied es)
+
+  -- a line of the correction names the route of a source
+  unfoldable pub touched : List Entry → ℕ → Bool
+  touched [] s = false
+  touched (e ∷ es) s = equal (keyOf (recordOf e)) (keyOf (recordAt frozen log s)) || touched es s
+
+  -- how many of the sources in front are of one route with s
+  unfoldable pub together : ℕ → List ℕ → ℕ
+  together s [] = 0
+  together s (x ∷ xs) = cond (equal (keyOf (recordAt frozen log s)) (keyOf (recordAt frozen log x))) (suc (together s xs)) 0
+
+  -- "Under 11 the touched routes are judged in rising byte order", which is the order of the sources: route by route, each that is
+  -- touched alone; of the first sources so many are of a route that was judged
+  unfoldable pub touchedJudged : List Entry → (judged : ℕ) → List ℕ → Verdict
+  touchedJudged es k [] = Accepted
+  touchedJudged es (suc k) (x ∷ xs) = touchedJudged es k xs
+  touchedJudged es zero (x ∷ xs) =
+      let n = together x xs in
+      inTurn
+      (cond (touched es x) (walked (map (recordAt frozen log) (x ∷ take n xs))) Accepted ∷
+      touchedJudged es n xs ∷
+      [])

@@ -1,0 +1,51 @@
+-- Corrections over any index and any sources: what no log and no file has is refused, and nothing is left open past the counts.
+-- Assumes nothing.
+use Prim.Native.Nat.{ℕ, _-_}
+use mathlib.Core.Bool.{Bool, true, cond, _&&_}
+use mathlib.Core.List.{List, [], _∷_, _++_}
+use lib.Dec.{leb}
+use lib.ListN.{length, replicate}
+use Rattle.refusals.specs.Table.{tooManyRecords, logTooLong}
+use Rattle.refusals.specs.declared.Verdict.{Verdict}
+use Rattle.refusals.specs.declared.Verdict.the-variants.{Accepted, Refused}
+use Rattle.corrections.specs.declared.Index.{Index}
+use Rattle.routes.specs.InTurn.{inTurn}
+use Rattle.routes.specs.Sources.{inUse}
+use Rattle.routes.specs.declared.Sources.{Sources}
+use Rattle.history.specs.Sets.{Numbers}
+use Rattle.applying.specs.Apply.{entriesFrom}
+use Rattle.applying.specs.Correct.{Outcome, stopped, reached}
+use Rattle.applying.specs.Run.{byCorrection, ran}
+use Rattle.applying.specs.declared.Ran.{Ran}
+
+-- every line lies within the longest log
+unfoldable pub allWithin : List ℕ → Bool
+allWithin [] = true
+allWithin (x ∷ xs) = leb x 60000 && allWithin xs
+
+-- 2 where more sources count than a file has records; 13 where the index has more lines than a log, or lines past its end
+unfoldable pub boundStage : Index → Sources → Verdict
+boundStage index state =
+    inTurn
+    (cond (leb (state .count) 480) Accepted (Refused tooManyRecords) ∷
+    cond (leb (index .count) 444 && allWithin (index .at)) Accepted (Refused logTooLong) ∷
+    [])
+
+abbrev pub bounded : Verdict → Outcome → Outcome
+bounded Accepted o = o
+bounded (Refused r) o = stopped r
+
+-- the corrections of a set among those of an index, in their order
+unfoldable pub ranOver : (frozen log : List ℕ) → Numbers → Index → Sources → Outcome
+ranOver frozen log T index state =
+    bounded (boundStage index state)
+    (ran frozen log T 1 (byCorrection 1 (index .corrections) (entriesFrom index 0 (index .count))) (inUse state))
+
+-- ---- as the code gives it
+
+unfoldable pub sourcesFor : List ℕ → Sources
+sourcesFor xs = record { count = length xs; at = xs ++ replicate (480 - length xs) 0 }
+
+unfoldable pub ranAs : Outcome → Ran
+ranAs (stopped r) = record { verdict = Refused r; records = sourcesFor [] }
+ranAs (reached xs) = record { verdict = Accepted; records = sourcesFor xs }

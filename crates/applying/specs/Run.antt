@@ -1,0 +1,34 @@
+-- Corrections one after the other.
+-- Assumes nothing.
+use Prim.Native.Nat.{ℕ, zero, suc, _+_}
+use mathlib.Core.Bool.{cond}
+use mathlib.Core.List.{List, [], _∷_}
+use lib.Dec.{eqb}
+use lib.ListN.{getD, take, drop}
+use Rattle.history.specs.Sets.{Numbers}
+use Rattle.corrections.specs.Reading.{Entry}
+use Rattle.applying.specs.Correct.{Outcome, stopped, reached, corrected}
+
+-- how many of the lines in front are of correction n
+unfoldable pub leading : ℕ → List Entry → ℕ
+leading n [] = 0
+leading n (e ∷ es) = cond (eqb (e .correction) n) (suc (leading n es)) 0
+
+-- the lines of m corrections from number n on, each correction's by themselves
+unfoldable pub byCorrection : (n m : ℕ) → List Entry → List (List Entry)
+byCorrection n zero es = []
+byCorrection n (suc m) es = take (leading n es) es ∷ byCorrection (n + 1) m (drop (leading n es) es)
+
+-- from where one outcome leaves the records, or no further
+abbrev pub onward : Outcome → (List ℕ → Outcome) → Outcome
+onward (stopped r) next = stopped r
+onward (reached xs) next = next xs
+
+-- corrections from number n on, those of a set alone, over the records as they stand
+unfoldable pub ran : (frozen log : List ℕ) → Numbers → (n : ℕ) → List (List Entry) → List ℕ → Outcome
+ran frozen log T n [] xs = reached xs
+ran frozen log T n (es ∷ ess) xs = onward (cond (T n) (corrected frozen log n es xs) (reached xs)) (ran frozen log T (n + 1) ess)
+
+-- the numbers that a row of marks has, one byte for each number from 0 on
+unfoldable pub marked : List ℕ → Numbers
+marked marks n = eqb (getD marks n 0) 1

@@ -1,0 +1,88 @@
+// The routes that a correction's lines name, each judged alone in the state that the correction left. Assumes of its callers, all in this
+// crate, that a state counts no more than 480 sources, an index no more than 444 lines, and that each line lies within a log of 60,000
+// bytes.
+//
+// Each route of the state costs one comparison of 25 bytes with each line of the correction; so over a whole log no more than lines times
+// records times 25 bytes.
+ghost use mathlib.Core.Path.{_≡_};
+ghost use Prim.Native.Nat.{_+_, _-_, _≤_, _<_};
+ghost use lib.ListN.{drop, getD};
+ghost use Rattle.routes.specs.Sources.{inUse};
+ghost use Rattle.applying.specs.Apply.{Within, entriesFrom, touched, together, touchedJudged};
+use crate::same_route;
+use corrections::Index;
+use refusals::Verdict;
+use routes::Sources;
+use routes::judge_range;
+
+// Whether a line from `from` up to `to` names the route of a source.
+fn touches<'a>(
+    frozen: &'a [u8],
+    log: &'a [u8],
+    index: Index,
+    from: usize,
+    to: usize,
+    source: u32,
+) -> bool
+    requires { ⌜ (to ≤ 444) × Within index ⌝ }
+    ensures { λ r. ⌜ r ≡ touched (now (frozen .entry)) (now (log .entry)) (entriesFrom index from (to - from)) source ⌝ }
+{
+    let mut k = from;
+    while k < to {
+        let at = index.at[k];
+        if same_route(frozen, log, 1000000 + at, source) {
+            return true;
+        }
+        k += 1;
+    }
+    false
+}
+
+// Where the route of the source at i ends: the place of the first one behind it that is of another route.
+fn route_end<'a>(frozen: &'a [u8], log: &'a [u8], state: Sources, i: usize) -> usize
+    requires { ⌜ (i < state .count) × (state .count ≤ 480) ⌝ }
+    ensures { λ j. ⌜ j ≡ i + 1 + together (now (frozen .entry)) (now (log .entry)) (getD (state .at) i 0) (drop (i + 1) (inUse state)) ⌝ }
+{
+    let count = state.count;
+    let first = state.at[i];
+    let mut k = i + 1;
+    while k < count {
+        let next = state.at[k];
+        if !same_route(frozen, log, first, next) {
+            return k;
+        }
+        k += 1;
+    }
+    k
+}
+
+// Judges the routes that a line from `from` up to `to` names, in rising order; the first that is refused gives the verdict.
+pub(crate) fn judge_touched<'a>(
+    frozen: &'a [u8],
+    log: &'a [u8],
+    index: Index,
+    from: usize,
+    to: usize,
+    state: Sources,
+) -> Verdict
+    requires { ⌜ (state .count ≤ 480) × (to ≤ 444) × Within index ⌝ }
+    ensures { λ r. ⌜ r ≡ touchedJudged (now (frozen .entry)) (now (log .entry)) (entriesFrom index from (to - from)) 0 (inUse state) ⌝ }
+{
+    let count = state.count;
+    let mut i = 0;
+    while i < count {
+        let source = state.at[i];
+        let end = route_end(frozen, log, state, i);
+        if touches(frozen, log, index, from, to, source) {
+            let verdict = judge_range(frozen, log, state, i, end);
+            match verdict {
+                Verdict::Accepted => {}
+                Verdict::Refused(r) => {
+                    return Verdict::Refused(r);
+                }
+            }
+        }
+        i = end;
+    }
+    Verdict::Accepted
+}

@@ -1,0 +1,73 @@
+// The corrections of a log applied to the records of a file, which are given by their sources. Assumes nothing of the caller: any slices,
+// any index, any marks, any sources.
+mod apply;
+mod correct;
+mod judge;
+mod series;
+mod state;
+
+ghost use mathlib.Core.Path.{_≡_};
+ghost use Rattle.slices.specs.Order.{equal};
+ghost use Rattle.routes.specs.Places.{keyOf};
+ghost use Rattle.routes.specs.Sources.{recordAt};
+ghost use Rattle.applying.specs.Run.{marked};
+ghost use Rattle.applying.specs.Bounds.{ranOver, ranAs};
+use corrections::Index;
+use refusals::Verdict;
+use routes::Sources;
+use routes::record_at;
+use series::bounds;
+use series::cleared;
+use series::refused_run;
+use series::run_marked;
+
+// What some corrections come to: the refusal, or where the records lie that they leave; nothing but zeros beside a refusal, and zeros past
+// the count.
+pub struct Ran {
+    pub verdict: Verdict,
+    pub records: Sources,
+}
+
+// Whether the records of two sources are of one route.
+pub fn same_route<'a>(frozen: &'a [u8], log: &'a [u8], a: u32, b: u32) -> bool
+    ensures { λ r. ⌜ r ≡ equal (keyOf (recordAt (now (frozen .entry)) (now (log .entry)) a)) (keyOf (recordAt (now (frozen .entry)) (now (log .entry)) b)) ⌝ }
+{
+    let x = record_at(frozen, log, a);
+    let y = record_at(frozen, log, b);
+    slices::same(x, 0, y, 0, 25)
+}
+
+// Whether a number is marked: 1 stands in its byte, where the first byte is that of 0.
+pub fn is_marked(marks: &[u8], n: usize) -> bool
+    ensures { λ r. ⌜ r ≡ marked (now (marks .entry)) n ⌝ }
+{
+    slices::byte_at(marks, n) == 1
+}
+
+// Applies the marked corrections of an index in their order: 10 where a line can't be applied, 11 where a route that a correction names is
+// refused after it. First of all 2 where more than 480 sources count, and 13 where the index tells of more than any log has.
+pub fn run<'a>(frozen: &'a [u8], log: &'a [u8], index: Index, marks: &[u8], state: Sources) -> Ran
+    ensures { λ r. ⌜ r ≡ ranAs (ranOver (now (frozen .entry)) (now (log .entry)) (marked (now (marks .entry))) index state) ⌝ }
+{
+    let bound = bounds(index, state);
+    match bound {
+        Verdict::Accepted => {}
+        Verdict::Refused(r) => {
+            return refused_run(r);
+        }
+    }
+    let done = run_marked(frozen, log, index, marks, state);
+    let verdict = done.verdict;
+    match verdict {
+        Verdict::Accepted => {}
+        Verdict::Refused(r) => {
+            return refused_run(r);
+        }
+    }
+    let left = done.state;
+    let records = cleared(left);
+    Ran {
+        verdict: Verdict::Accepted,
+        records: records,
+    }
+}
