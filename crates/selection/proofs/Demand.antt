@@ -32,7 +32,8 @@ use Rattle.applying.specs.Procedures.{procedures, logOf}
 use Rattle.applying.proofs.Procedures.{accepted-iff}
 use Rattle.selection.proofs.OpenedLaws.{legal-opened, carried-placed}
 use Rattle.selection.proofs.PickSteps.{outcome-filed, everything-runs, accepted-whole, whole-accepted, legal-accepted, legal-whole}
-use Rattle.selection.proofs.PickSteps.{steps, whole-picks, theory, taken-set, taken-runs, members-few}
+use Rattle.selection.proofs.MemberLaws.{members-few}
+use Rattle.selection.proofs.PickSteps.{steps, whole-picks, theory, taken-set, taken-runs}
 
 -- ---- which logs are accepted
 
@@ -52,26 +53,6 @@ log-runs frozen log = (
 )
 
 -- ---- when there is a pick
-
--- The wanted numbers pass exactly when each is the number of one of the n corrections.
-pub wanted-iff : (n i : ℕ) (ws : List ℕ) → (wantedStage n i ws ≡ Accepted) ↔ Every (λ w. (1 ≤ w) × (w ≤ n)) ws
-unfolding wantedStage
-wanted-iff n i [] = (λ _. tt, λ _. refl)
-wanted-iff n i (w ∷ ws) = by (wanted-iff n (i + 1) ws)
-  where
-    by : (wantedStage n (i + 1) ws ≡ Accepted) ↔ Every (λ v. (1 ≤ v) × (v ≤ n)) ws
-        → (cond (eqb w 0 || ltb n w) (Refused (notInLog i)) (wantedStage n (i + 1) ws) ≡ Accepted)
-        ↔ (((1 ≤ w) × (w ≤ n)) × Every (λ v. (1 ≤ v) × (v ≤ n)) ws)
-    by ih = (
-      λ e.
-          split (eqb w 0) (λ t. absurd (never (rw t at e)))
-          (λ t.
-          split (ltb n w) (λ u. absurd (never (rw (t, u) at e)))
-          (λ u.
-          let some : w ≡ 0 → ⊥ = eqb-false w 0 t in
-          ((omega arith, ltb-false n w u), ih .0 (rw (t, u) at e)))),
-      λ h. rw (ne-eqb w 0 (λ (z : w ≡ 0). omega (arith, h .0 .0)), le-ltb n w (h .0 .1)) (ih .1 (h .1)),
-    )
 
 -- There is a pick exactly when the log is accepted over the frozen file and the wanted numbers pass; the corrections of a legal log are
 -- decided by its text (`legal-corrections`). So the corrections taken, run by themselves, are never refused.

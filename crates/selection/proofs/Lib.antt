@@ -1,11 +1,11 @@
 -- The laws of this crate; what is promised stands in Demand.
-mod OpeningLaws
+pub mod OpeningLaws
 mod MarkLaws
 mod RelianceLaws
 mod GroupLaws
 mod LastLaws
 mod IndexLaws
-mod TakenLaws
+pub mod TakenLaws
 mod MemberLaws
 mod CarryLaws
 pub mod LogLaws
@@ -13,3 +13,4 @@ pub mod OpenedLaws
 pub mod PickSteps
 pub mod Demand
 mod StoredLaws
+pub mod Answers

@@ -158,10 +158,3 @@ module _ (frozen log ws : List ℕ) where
         come : (xs : List ℕ) → carried frozen log (takenOf frozen log n es ws) n es ≡ reached xs
             → pickFrom frozen log ws (opened frozen log) ≡ picked (membersFrom (takenOf frozen log n es ws) 1 n) xs
         come xs a = rw (q, v, w .all, a)
-
--- the numbers of a set among m are at most m
-pub members-few : (T : Numbers) (n m : ℕ) → length (membersFrom T n m) ≤ m
-unfolding membersFrom
-members-few T n zero = omega arith
-members-few T n (suc m) =
-    split (T n) (λ t. rw t (omega (arith, members-few T (n + 1) m))) (λ t. rw t (omega (arith, members-few T (n + 1) m)))

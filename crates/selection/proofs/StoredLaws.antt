@@ -76,7 +76,7 @@ stored-lines (r ∷ rs) w =
     let e : part 132 0 r ≡ r = ap (λ (n : ℕ). part n 0 r) (sym (w .0)) ∙ part-all r in
     ap (λ (x : List ℕ). (x ++ 10 ∷ []) ++ stored rs) e ∙ append-assoc r (10 ∷ []) (stored rs) ∙ ap (λ (x : List ℕ). r ++ 10 ∷ x) (stored-lines rs (w .1))
 
-in-use-all : (xs : List ℕ) → inUse (sourcesFor xs) ≡ xs
+pub in-use-all : (xs : List ℕ) → inUse (sourcesFor xs) ≡ xs
 unfolding inUse sourcesFor
 in-use-all xs = take-at xs (replicate (480 - length xs) 0) (length xs) refl
 

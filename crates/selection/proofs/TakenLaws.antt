@@ -11,7 +11,7 @@ use borrow.Author.Tests.{eqb-true, eqb-false, eq-eqb, lt-ltb, ltb-true, ltb-fals
 use Rattle.slices.specs.Part.{member}
 use Rattle.slices.proofs.Cases.{split, or-left, or-right, both}
 use Rattle.refusals.specs.declared.Verdict.the-variants.{Accepted}
-use Rattle.routes.proofs.InTurnLaws.{never}
+use Rattle.routes.specs.Places.{Every}
 use Rattle.history.specs.Apply.{Correction, Touches}
 use Rattle.history.specs.Sets.{Numbers, _∈_, _⊆_, numbered, lastOn, Closed, closure}
 use Rattle.history.specs.Demand.{Fewest}
@@ -24,6 +24,7 @@ use Rattle.applying.specs.Run.{byCorrection, marked}
 use Rattle.applying.specs.Procedures.{procedures, operation, operations}
 use Rattle.selection.specs.Reliance.{lastBefore, reliedBy, reliances, namedBy, Relies, Reach, here, step, In, Taken}
 use Rattle.selection.specs.Pick.{wantedStage, wants}
+use Rattle.selection.proofs.OpeningLaws.{wanted-iff}
 use Rattle.selection.proofs.GroupLaws.{flat, Grouped, Stands, stands, line-of, grouped-at, all-at, ByCorrection}
 use Rattle.selection.proofs.LastLaws.{routeIn, touches-at, touched-by, numbered-group, last-of-line}
 use Rattle.selection.proofs.IndexLaws.{noLine, entry-at, correction-at, first-lines}
@@ -32,23 +33,14 @@ use Rattle.selection.proofs.RelianceLaws.{reliance-at}
 
 -- ---- the wanted numbers
 
-true-false : true ≡ false → ⊥
-true-false q = false≢true (sym q)
-
--- a number that is not refused is one of the corrections
-not-refused : (n w : ℕ) → (eqb w 0 || ltb n w) ≡ false → (0 < w) × (w ≤ n)
-not-refused n w t =
-    let z : w ≡ 0 → ⊥ = λ q. true-false (sym (or-left (eqb w 0) (ltb n w) (eq-eqb w 0 q)) ∙ t) in
-    let y : n < w → ⊥ = λ q. true-false (sym (or-right (eqb w 0) (ltb n w) (lt-ltb n w q)) ∙ t) in
-    (omega arith, omega arith)
-
 -- where none of them is refused, each is one of the corrections
 pub wanted-within : (n i : ℕ) (ws : List ℕ) → wantedStage n i ws ≡ Accepted → (k : ℕ) → k < length ws → (0 < getD ws k 0) × (getD ws k 0 ≤ n)
-unfolding wantedStage
-wanted-within n i [] e k h = absurd (omega arith)
-wanted-within n i (w ∷ ws) e zero h = split (eqb w 0 || ltb n w) (λ t. absurd (never (rw t at e))) (not-refused n w)
-wanted-within n i (w ∷ ws) e (suc k) h =
-    split (eqb w 0 || ltb n w) (λ t. absurd (never (rw t at e))) (λ t. wanted-within n (i + 1) ws (rw t at e) k (omega arith))
+wanted-within n i ws e k h = let w = at ws (wanted-iff n i ws .0 e) k h in (omega (arith, w .0), w .1)
+  where
+    at : (ws : List ℕ) → Every (λ w. (1 ≤ w) × (w ≤ n)) ws → (k : ℕ) → k < length ws → (1 ≤ getD ws k 0) × (getD ws k 0 ≤ n)
+    at [] a k h = absurd (omega arith)
+    at (w ∷ ws) a zero h = a .0
+    at (w ∷ ws) a (suc k) h = at ws (a .1) k (omega arith)
 
 -- a number is wanted where it stands somewhere in the list
 wanted-at : (ws : List ℕ) (n : ℕ) → member n ws ≡ true → (k : ℕ) × (k < length ws) × (getD ws k 0 ≡ n)
