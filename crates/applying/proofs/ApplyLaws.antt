@@ -1,15 +1,15 @@
 -- Laws of lines applied one after the other, as the loop that applies them asks for them.
 -- Assumes nothing.
 use mathlib.Core.Path.{_≡_, refl, sym, ap, subst, _∙_}
-use mathlib.Core.Bool.{Bool, true, false, not, cond, false≢true}
-use mathlib.Core.List.{List, [], _∷_}
+use mathlib.Core.Bool.{Bool, true, false, not, false≢true}
+use mathlib.Core.List.{List}
 use mathlib.Core.Option.{Option, some, none, bind}
-use Prim.Native.Nat.{ℕ, zero, suc, _+_, _-_, _≤_, _<_}
+use Prim.Native.Nat.{ℕ, _+_, _-_, _≤_, _<_}
 use Prim.Native.Char.{code}
 use native.Mathlib.Omega.{arith}
 use borrow.Author.Tests.{ne-eqb}
 use Rattle.slices.proofs.PartLaws.{one-less}
-use Rattle.corrections.specs.Reading.{Entry, entry}
+use Rattle.corrections.specs.Reading.{entry}
 use Rattle.corrections.specs.declared.Index.{Index}
 use Rattle.routes.specs.Sources.{recordAt, inUse}
 use Rattle.routes.specs.declared.Sources.{Sources}

@@ -1,16 +1,15 @@
 -- Laws of a run over any index and any sources: its bounds, and a law for each way that it ends.
 -- Assumes nothing.
-use mathlib.Core.Path.{_≡_, refl, sym, ap, ap₂, subst, _∙_}
-use mathlib.Core.Bool.{Bool, true, false, cond, _&&_, false≢true}
+use mathlib.Core.Path.{_≡_, refl, sym, ap, ap₂, _∙_}
+use mathlib.Core.Bool.{Bool, true, false, cond, _&&_}
 use mathlib.Core.List.{List, [], _∷_, _++_}
 use Prim.Native.Nat.{ℕ, zero, suc, _+_, _-_, _≤_, _<_}
 use native.Mathlib.Omega.{arith}
-use native.Mathlib.Numerals.{add-one}
 use lib.Dec.{leb}
-use lib.ListN.{length, getD, take, drop, replicate, drop-of-length-le, List·getD-eq-default}
+use lib.ListN.{length, getD, take, drop, replicate, drop-of-length-le}
 use lib.Seq.{length-take-le, drop-cons}
-use borrow.Author.Tests.{le-leb, lt-leb, leb-true, leb-false}
-use Rattle.slices.proofs.Cases.{split, and-left, and-right, both}
+use borrow.Author.Tests.{le-leb, lt-leb, leb-true}
+use Rattle.slices.proofs.Cases.{and-left, and-right, both}
 use Rattle.slices.proofs.WriteLaws.{cleared}
 use Rattle.refusals.specs.Table.{tooManyRecords, logTooLong}
 use Rattle.refusals.specs.declared.Refusal.{Refusal}
@@ -23,9 +22,9 @@ use Rattle.routes.specs.declared.Sources.{Sources}
 use Rattle.routes.proofs.InTurnLaws.{never}
 use Rattle.history.specs.Sets.{Numbers}
 use Rattle.applying.specs.Apply.{Within, entriesFrom}
-use Rattle.applying.specs.Correct.{Outcome, stopped, reached, Comes}
+use Rattle.applying.specs.Correct.{Outcome, stopped, Comes}
 use Rattle.applying.specs.Run.{byCorrection, ran}
-use Rattle.applying.specs.Bounds.{allWithin, boundStage, bounded, ranOver, sourcesFor, ranAs}
+use Rattle.applying.specs.Bounds.{allWithin, boundStage, ranOver, sourcesFor, ranAs}
 use Rattle.applying.specs.declared.Ran.{Ran}
 use Rattle.applying.specs.declared.correct.Corrected.{Corrected}
 use Rattle.applying.proofs.RunLaws.{came-refused, came-stands}

@@ -1,9 +1,9 @@
 -- What a correction comes to, a law for each way that it ends.
 -- Assumes nothing.
-use mathlib.Core.Path.{_≡_, refl, sym, ap, subst, _∙_}
-use mathlib.Core.Bool.{Bool, true, false}
+use mathlib.Core.Path.{_≡_, sym, ap, subst}
+use mathlib.Core.Bool.{true, false}
 use mathlib.Core.List.{List}
-use mathlib.Core.Option.{Option, some, none}
+use mathlib.Core.Option.{Option}
 use Prim.Native.Nat.{ℕ, _≤_}
 use Rattle.refusals.specs.Table.{doesNotApply, routeRefused}
 use Rattle.refusals.specs.declared.Refusal.{Refusal}
@@ -14,7 +14,7 @@ use Rattle.routes.specs.Sources.{inUse}
 use Rattle.routes.specs.declared.Sources.{Sources}
 use Rattle.applying.specs.State.{Gives}
 use Rattle.applying.specs.Apply.{linesApplied, touchedJudged}
-use Rattle.applying.specs.Correct.{Outcome, afterLines, afterJudging, corrected, Comes, refused, stands}
+use Rattle.applying.specs.Correct.{afterLines, afterJudging, corrected, Comes, refused, stands}
 use Rattle.applying.specs.declared.correct.Corrected.{Corrected}
 use Rattle.applying.specs.declared.state.Change.{Change}
 use Rattle.applying.proofs.ApplyLaws.{gave-none, gave-some}

@@ -1,23 +1,18 @@
 -- A list of records is an accepted file of the theory of selection, for the format of this product, exactly when it is judged so.
 -- Assumes nothing.
 use mathlib.Core.Path.{_≡_, refl, sym, ap, _∙_}
-use mathlib.Core.Bool.{Bool, true, false, cond, false≢true}
-use mathlib.Core.List.{List, [], _∷_, _++_, map}
+use mathlib.Core.Bool.{true, false, cond, false≢true}
+use mathlib.Core.List.{List, [], _∷_, map}
 use mathlib.Core.Logic.{_↔_, ite}
 use Prim.Native.Nat.{ℕ}
-use lib.ListN.{length, take}
-use lib.Seq.{take-at}
-use Rattle.slices.specs.Order.{order, equal}
-use Rattle.slices.specs.declared.Ordering.the-variants.{Less}
+use Rattle.slices.specs.Order.{equal}
 use Rattle.slices.proofs.Cases.{split}
 use Rattle.slices.proofs.OrderLaws.{equal-iff}
-use Rattle.slices.proofs.PartLaws.{length-part}
 use Rattle.refusals.specs.declared.Verdict.{Verdict}
 use Rattle.refusals.specs.declared.Verdict.the-variants.{Accepted, Refused}
 use Rattle.routes.specs.Places.{keyOf, placeOf, ofRoute, Rising, Every, Before}
 use Rattle.routes.specs.Walk.{walked}
 use Rattle.routes.proofs.Routes.{by-routes}
-use Rattle.routes.proofs.InTurnLaws.{never}
 use Rattle.history.specs.Format as H
 use Rattle.history.specs.Format.{own}
 use Rattle.history.specs.Bytes.{same?}

@@ -7,11 +7,10 @@ use Prim.Native.Nat.{ℕ, zero, suc, _+_, _-_, _≤_, _<_}
 use native.Mathlib.Omega.{arith}
 use native.Mathlib.Nat.{sub-zero}
 use lib.Dec.{eqb}
-use lib.ListN.{getD, take, drop, length}
+use lib.ListN.{getD, take, drop}
 use borrow.Author.Tests.{eq-eqb, ne-eqb}
 use Rattle.slices.proofs.PartLaws.{one-less}
 use Rattle.refusals.specs.declared.Refusal.{Refusal}
-use Rattle.refusals.specs.declared.Verdict.{Verdict}
 use Rattle.refusals.specs.declared.Verdict.the-variants.{Accepted, Refused}
 use Rattle.routes.proofs.InTurnLaws.{never}
 use Rattle.corrections.specs.Reading.{Entry}

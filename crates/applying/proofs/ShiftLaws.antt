@@ -1,12 +1,12 @@
 -- Laws of putting one more into a list and of leaving one out, as the loops that shift do it.
 -- Assumes nothing.
 use mathlib.Core.Path.{_≡_, refl, sym, ap, _∙_}
-use mathlib.Core.List.{List, [], _∷_, _++_, append-assoc}
-use Prim.Native.Nat.{ℕ, zero, suc, _+_, _-_, _≤_, _<_, min}
+use mathlib.Core.List.{List, [], _∷_}
+use Prim.Native.Nat.{ℕ, zero, suc, _+_, _-_, _≤_, _<_}
 use native.Mathlib.Omega.{arith}
 use native.Mathlib.Numerals.{add-one}
-use lib.ListN.{length, take, drop, getD, set, length-set, length-take}
-use lib.Seq.{take-suc-set, drop-set-lt, drop-cons, append-snoc, take-append-add, length-take-le, take-take, take-at}
+use lib.ListN.{length, take, drop, getD, set}
+use lib.Seq.{take-suc-set, drop-set-lt, drop-cons, append-snoc, length-take-le, take-at}
 use Rattle.applying.specs.State.{putAt, leftOut}
 
 -- a turn of the loop that puts in: the carried element is stored, and what stood there is carried

@@ -1,25 +1,21 @@
 -- Laws of states: their sources, the search for a record's place, and what a change of one answers.
 -- Assumes nothing.
-use mathlib.Core.Path.{_≡_, refl, sym, ap, _∙_}
+use mathlib.Core.Path.{_≡_, sym, ap, _∙_}
 use mathlib.Core.Bool.{Bool, true, false, false≢true}
-use mathlib.Core.List.{List, [], _∷_, _++_}
-use mathlib.Core.Option.{Option, some, none}
+use mathlib.Core.List.{List, [], _∷_}
 use Prim.Native.Nat.{ℕ, zero, suc, _+_, _≤_, _<_}
 use native.Mathlib.Omega.{arith}
 use native.Mathlib.Nat.{zero-add}
-use lib.Dec.{leb}
-use lib.ListN.{length, getD, take, drop, drop-of-length-le}
+use lib.ListN.{length, getD, drop, drop-of-length-le}
 use lib.Seq.{drop-cons, getD-take, length-take-le}
 use borrow.Author.Tests.{le-leb, lt-leb}
 use Rattle.slices.specs.Part.{part}
 use Rattle.slices.specs.Order.{order, isEqual, equal}
-use Rattle.slices.specs.Search.{firstAt}
 use Rattle.slices.specs.declared.Ordering.{Ordering}
 use Rattle.slices.specs.declared.Ordering.the-variants.{Less, Equal, Greater}
 use Rattle.slices.proofs.OrderLaws.{after, order-append}
 use Rattle.slices.proofs.PartLaws.{length-part}
 use Rattle.slices.proofs.SearchLaws.{Come, starts, finds, goes-on, ends, first-within}
-use Rattle.columns.specs.Words.{columns}
 use Rattle.routes.specs.Places.{placeOf}
 use Rattle.routes.specs.Sources.{recordAt, inUse}
 use Rattle.routes.specs.declared.Sources.{Sources}

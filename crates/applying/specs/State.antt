@@ -14,7 +14,6 @@ use Rattle.slices.specs.declared.Ordering.{Ordering}
 use Rattle.slices.specs.declared.Ordering.the-variants.{Less, Equal, Greater}
 use Rattle.routes.specs.Places.{placeOf}
 use Rattle.routes.specs.Sources.{recordAt, inUse}
-use Rattle.routes.specs.declared.Sources.{Sources}
 use Rattle.applying.specs.declared.state.Change.{Change}
 
 abbrev pub reached : Ordering → Bool

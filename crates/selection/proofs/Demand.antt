@@ -4,23 +4,17 @@
 -- Assumes nothing.
 use mathlib.Core.Path.{_≡_, refl, sym, ap, subst, _∙_}
 use mathlib.Core.Logic.{_↔_}
-use mathlib.Core.Bool.{cond, _||_}
-use mathlib.Core.List.{List, [], _∷_, map}
+use mathlib.Core.List.{List, map}
 use mathlib.Core.Option.{some}
-use Prim.Native.Nat.{ℕ, _+_, _≤_}
+use Prim.Native.Nat.{ℕ, _≤_}
 use native.Mathlib.Omega.{arith}
-use lib.Dec.{eqb, ltb}
 use lib.ListN.{length, length-map}
-use borrow.Author.Tests.{eqb-false, ltb-false, ne-eqb, le-ltb}
-use Rattle.slices.proofs.Cases.{split}
-use Rattle.refusals.specs.Table.{notInLog}
-use Rattle.refusals.specs.declared.Verdict.the-variants.{Accepted, Refused}
+use Rattle.refusals.specs.declared.Verdict.the-variants.{Accepted}
 use Rattle.corrections.specs.Text.{LegalLog}
 use Rattle.routes.specs.Files.{fileVerdict}
 use Rattle.routes.specs.Legal.{lines, Wide}
 use Rattle.routes.specs.Places.{Every}
 use Rattle.routes.specs.Sources.{recordAt, records}
-use Rattle.routes.proofs.InTurnLaws.{never}
 use Rattle.routes.proofs.Lines.{file-iff}
 use Rattle.history.specs.Format as H
 use Rattle.history.specs.Apply.{run}

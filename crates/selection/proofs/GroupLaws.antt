@@ -1,18 +1,17 @@
 -- The lines of a log by their corrections: they stand one correction behind the other, each with its own number.
 -- Assumes nothing.
 use mathlib.Core.Path.{_≡_, refl, sym, ap, ap₂, subst, _∙_}
-use mathlib.Core.Bool.{true, false}
 use mathlib.Core.List.{List, [], _∷_, _++_, append-assoc, append-nil}
 use Prim.Native.Nat.{ℕ, zero, suc, _+_, _-_, _*_, _≤_, _<_}
 use native.Mathlib.Omega.{arith}
-use lib.Dec.{eqb, ltb}
-use lib.ListN.{length, getD, take, drop, length-append, List·getD-append}
+use lib.Dec.{ltb}
+use lib.ListN.{length, getD, take, length-append, List·getD-append}
 use lib.Seq.{take-suc, take-append-le, take-append-add, getD-append-add, take-at, drop-at}
 use borrow.Author.Tests.{eq-eqb, ne-eqb, ltb-true, ltb-false}
 use Rattle.slices.proofs.Cases.{split}
 use Rattle.corrections.specs.Lines.{heading}
-use Rattle.corrections.specs.Reading.{Entry, entry, said, readLog}
-use Rattle.corrections.specs.Text.{Change, letterOf, LegalLog}
+use Rattle.corrections.specs.Reading.{Entry, said, readLog}
+use Rattle.corrections.specs.Text.{Change}
 use Rattle.corrections.proofs.TextLaws.{entriesFrom, entriesIn}
 use Rattle.corrections.proofs.Within.{legal-read}
 use Rattle.corrections.proofs.Spelling.{said-legal}

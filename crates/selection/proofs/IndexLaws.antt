@@ -2,15 +2,14 @@
 -- Assumes nothing.
 use mathlib.Core.Path.{_≡_, refl, sym, ap, ap₂, subst, _∙_}
 use mathlib.Core.List.{List, [], _∷_, _++_, map}
-use Prim.Native.Nat.{ℕ, zero, suc, _+_, _-_, _≤_, _<_}
+use Prim.Native.Nat.{ℕ, zero, suc, _+_, _-_, _≤_}
 use native.Mathlib.Omega.{arith}
 use lib.Dec.{ltb}
-use lib.ListN.{length, getD, take, drop, replicate, length-map, List·getD-append, List·getD-map, List·getD-eq-default, length-append, length-replicate}
+use lib.ListN.{length, getD, take, drop, replicate, length-map, List·getD-append, List·getD-map, List·getD-eq-default}
 use lib.Seq.{drop-cons, getD-append-add}
 use borrow.Author.Tests.{ltb-true, ltb-false}
 use Rattle.slices.proofs.Cases.{split}
-use Rattle.slices.proofs.PartLaws.{getD-any}
-use Rattle.corrections.specs.Reading.{Entry, entry, Reading, refused, said, readLog, padded, indexOf}
+use Rattle.corrections.specs.Reading.{Entry, entry, said, readLog, padded, indexOf}
 use Rattle.corrections.specs.declared.Index.{Index}
 use Rattle.corrections.proofs.TextLaws.{entriesIn}
 use Rattle.corrections.proofs.Within.{EveryEntry, Lies, legal-read, legal-lies, at-most-444}

@@ -11,7 +11,6 @@ use lib.Dec.{eqb, ltb}
 use lib.ListN.{length, getD, take, List·getD-map}
 use borrow.Author.Tests.{lt-ltb, le-ltb}
 use Rattle.slices.specs.Order.{equal}
-use Rattle.slices.proofs.Cases.{split}
 use Rattle.slices.proofs.OrderLaws.{equal-iff}
 use Rattle.routes.specs.Places.{keyOf}
 use Rattle.history.specs.Apply.{take-out, put-in, routeOf, Touches, touches?}
@@ -20,7 +19,7 @@ use Rattle.corrections.specs.Reading.{Entry}
 use Rattle.applying.specs.Apply.{recordOf}
 use Rattle.applying.specs.Procedures.{procedures, operation, operations}
 use Rattle.selection.specs.Reliance.{lastBefore}
-use Rattle.selection.proofs.GroupLaws.{AllOf, Grouped, flat, flat-next, grouped-at, all-at, Stands}
+use Rattle.selection.proofs.GroupLaws.{AllOf, Grouped, flat, flat-next, grouped-at, Stands}
 
 module _ (f l : List ℕ) where
   abbrev pub routeIn : Entry → List ℕ

@@ -2,11 +2,11 @@
 -- Assumes nothing.
 use mathlib.Core.Path.{_≡_, refl, sym, ap, ap₂, _∙_}
 use mathlib.Core.List.{List, [], _∷_, _++_, map, append-assoc}
-use Prim.Native.Nat.{ℕ, suc, _+_, _-_, _*_, _≤_}
+use Prim.Native.Nat.{ℕ, _+_, _-_, _*_, _≤_}
 use native.Mathlib.Omega.{arith}
-use lib.ListN.{length, take, drop, length-append}
-use lib.Seq.{take-at, drop-at, drop-append-add}
-use borrow.Author.Tests.{le-leb, eq-eqb, ne-eqb}
+use lib.ListN.{length, take, length-append}
+use lib.Seq.{take-at, drop-append-add}
+use borrow.Author.Tests.{le-leb}
 use Rattle.corrections.specs.Lines.{heading}
 use Rattle.corrections.specs.Reading.{Entry, entry}
 use Rattle.corrections.specs.Text.{Change, takeOut, putIn, letterOf, changeText, headingText, Sound, changesText, logText, EverySound, AllSound, puts, allPuts, LegalLog}

@@ -1,8 +1,8 @@
 -- Laws of what the lines of an index rely on, as the loops that find it ask for them.
 -- Assumes nothing.
-use mathlib.Core.Path.{_≡_, refl, sym, ap, ap₂, _∙_}
+use mathlib.Core.Path.{_≡_, refl, sym, ap, _∙_}
 use mathlib.Core.Bool.{Bool, cond, _&&_}
-use mathlib.Core.List.{List, [], _∷_, _++_}
+use mathlib.Core.List.{List, _++_}
 use Prim.Native.Nat.{ℕ, zero, suc, _+_, _-_, _≤_, _<_}
 use native.Mathlib.Omega.{arith}
 use native.Mathlib.Nat.{sub-zero}
@@ -15,7 +15,6 @@ use Rattle.slices.proofs.PartLaws.{one-less}
 use Rattle.slices.proofs.WriteLaws.{stored-front}
 use Rattle.routes.specs.Places.{keyOf}
 use Rattle.routes.specs.Sources.{recordAt}
-use Rattle.corrections.specs.Reading.{Entry}
 use Rattle.corrections.specs.declared.Index.{Index}
 use Rattle.applying.specs.Apply.{entryAt, entriesFrom, recordOf}
 use Rattle.selection.specs.Reliance.{lastBefore, reliedBy, reliances}

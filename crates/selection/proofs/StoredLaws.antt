@@ -2,10 +2,9 @@
 -- Assumes nothing.
 use mathlib.Core.Path.{_≡_, refl, sym, ap, ap₂, subst, _∙_}
 use mathlib.Core.List.{List, [], _∷_, _++_, map, append-assoc}
-use Prim.Native.Nat.{ℕ, zero, suc, _+_, _-_, _*_, _≤_, _<_}
+use Prim.Native.Nat.{ℕ, suc, _+_, _-_, _*_, _≤_, _<_}
 use native.Mathlib.Omega.{arith}
-use lib.Dec.{ltb}
-use lib.ListN.{length, getD, set, take, drop, replicate, length-map, length-replicate, drop-of-length-le}
+use lib.ListN.{length, getD, set, drop, replicate, length-map, length-replicate, drop-of-length-le}
 use lib.Seq.{sets, drop-cons, getD-take, take-at}
 use borrow.Author.Tests.{lt-ltb, le-ltb}
 use Rattle.slices.specs.Part.{part}

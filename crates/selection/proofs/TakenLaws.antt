@@ -1,13 +1,13 @@
 -- The corrections that are marked are the closure of the wanted ones, in the words of the theory of selection.
 -- Assumes nothing.
 use mathlib.Core.Path.{_≡_, refl, sym, ap, subst, _∙_}
-use mathlib.Core.Bool.{Bool, true, false, _||_, _&&_, false≢true}
+use mathlib.Core.Bool.{Bool, true, false, false≢true}
 use mathlib.Core.List.{List, [], _∷_, _++_, map}
 use Prim.Native.Nat.{ℕ, zero, suc, _+_, _-_, _≤_, _<_}
 use native.Mathlib.Omega.{arith}
 use lib.Dec.{eqb, ltb}
 use lib.ListN.{length, getD, take, replicate, length-map, List·getD-eq-default}
-use borrow.Author.Tests.{eqb-true, eqb-false, eq-eqb, lt-ltb, ltb-true, ltb-false}
+use borrow.Author.Tests.{eqb-true, eq-eqb, lt-ltb, ltb-true, ltb-false}
 use Rattle.slices.specs.Part.{member}
 use Rattle.slices.proofs.Cases.{split, or-left, or-right, both}
 use Rattle.refusals.specs.declared.Verdict.the-variants.{Accepted}
@@ -19,13 +19,13 @@ use Rattle.history.proofs.Closure.{last-within}
 use Rattle.history.proofs.Statements.{fewest, only-fewest}
 use Rattle.corrections.specs.Reading.{Entry, said, indexOf}
 use Rattle.corrections.specs.declared.Index.{Index}
-use Rattle.applying.specs.Apply.{entryAt, entriesFrom}
+use Rattle.applying.specs.Apply.{entriesFrom}
 use Rattle.applying.specs.Run.{byCorrection, marked}
 use Rattle.applying.specs.Procedures.{procedures, operation, operations}
 use Rattle.selection.specs.Reliance.{lastBefore, reliedBy, reliances, namedBy, Relies, Reach, here, step, In, Taken}
 use Rattle.selection.specs.Pick.{wantedStage, wants}
 use Rattle.selection.proofs.OpeningLaws.{wanted-iff}
-use Rattle.selection.proofs.GroupLaws.{flat, Grouped, Stands, stands, line-of, grouped-at, all-at, ByCorrection}
+use Rattle.selection.proofs.GroupLaws.{flat, Stands, stands, line-of, grouped-at, all-at, ByCorrection}
 use Rattle.selection.proofs.LastLaws.{routeIn, touches-at, touched-by, numbered-group, last-of-line}
 use Rattle.selection.proofs.IndexLaws.{noLine, entry-at, correction-at, first-lines}
 use Rattle.selection.proofs.MarkLaws.{names, named-by}

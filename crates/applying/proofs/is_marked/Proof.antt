@@ -1,6 +1,6 @@
 -- The byte that stands there. Assumes nothing.
 use Rattle.applying.specs.Run.{marked}
-use mathlib.Core.Path.{refl, ap, _∙_}
+use mathlib.Core.Path.{ap}
 use lib.Dec.{eqb}
 use Prim.Native.Nat.{ℕ}
 use borrow.Author.Needs.{needs}

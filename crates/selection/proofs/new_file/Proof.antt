@@ -1,7 +1,6 @@
 -- Too short, or the pick. Assumes nothing.
 use Rattle.selection.proofs.StoredLaws.{pick-few, file-short, file-made}
 use borrow.Author.Needs.{needs}
-use native.Mathlib.Omega.{arith}
 use Rattle.selection.proofs.new_file.Statement.{statement}
 use Rattle.selection.proofs.new_file.Tie as tie
 

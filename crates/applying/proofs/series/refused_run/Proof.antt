@@ -1,7 +1,6 @@
 -- Put together as the definition says. Assumes nothing.
 use mathlib.Core.Path.{refl}
 use Rattle.applying.specs.Bounds.{sourcesFor, ranAs}
-use borrow.Author.Needs.{needs}
 use Rattle.applying.proofs.series.refused_run.Statement.{statement}
 use Rattle.applying.proofs.series.refused_run.Tie as tie
 

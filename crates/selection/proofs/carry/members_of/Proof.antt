@@ -2,7 +2,7 @@
 use Rattle.applying.specs.Run.{marked}
 use Rattle.selection.specs.Pick.{membersFrom, listed}
 use Prim.Native.Nat.{_≤_, _-_}
-use mathlib.Core.Path.{_≡_, refl}
+use mathlib.Core.Path.{_≡_}
 use Rattle.selection.proofs.MemberLaws.{membersLeft, members-start, members-next, members-end, grown-few}
 use borrow.Author.Needs.{needs}
 use native.Mathlib.Omega.{arith}

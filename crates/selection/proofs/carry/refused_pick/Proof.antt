@@ -2,7 +2,6 @@
 use mathlib.Core.Path.{refl}
 use Rattle.applying.specs.Bounds.{sourcesFor}
 use Rattle.selection.specs.Pick.{pickedAs}
-use borrow.Author.Needs.{needs}
 use Rattle.selection.proofs.carry.refused_pick.Statement.{statement}
 use Rattle.selection.proofs.carry.refused_pick.Tie as tie
 

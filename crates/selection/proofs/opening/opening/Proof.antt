@@ -1,5 +1,4 @@
 -- A law for each way that it ends. Assumes nothing.
-use mathlib.Core.Path.{refl}
 use Rattle.routes.proofs.SourceLaws.{own-count}
 use Rattle.selection.proofs.OpeningLaws.{opening-long, opening-file, opening-log}
 use borrow.Author.Needs.{needs}
