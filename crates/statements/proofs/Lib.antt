@@ -1,0 +1,3 @@
+-- What a customer has to believe, together.
+pub mod Starred
+pub mod Unique
