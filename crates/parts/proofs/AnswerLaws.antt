@@ -5,8 +5,9 @@ use mathlib.Core.Bool.{Bool, true, false}
 use mathlib.Core.List.{List, [], _∷_, _++_, append-assoc}
 use Prim.Native.Nat.{ℕ, zero, suc, _+_, _-_, _≤_, _<_}
 use native.Mathlib.Omega.{arith}
+use native.Mathlib.Decide.{decLt}
 use lib.ListN.{length, getD, take, drop, set, replicate, length-append, length-set}
-use lib.Seq.{sets, sets-eq, set-at, take-at, drop-cons, length-sets}
+use lib.Seq.{sets, sets-eq, set-at, take-at, drop-cons, length-sets, length-take-le}
 use borrow.Author.Tests.{ne-eqb, lt-ltb, le-ltb}
 use Rattle.slices.specs.Part.{part}
 use Rattle.slices.proofs.PartLaws.{part-all}
@@ -20,6 +21,34 @@ use Rattle.refusals.specs.declared.Verdict.the-variants.{Accepted, Refused}
 use Rattle.leg.specs.Judge.{stage, judged}
 use Rattle.parts.specs.Record.{sizeColumn, columnsOf, alone, nothing, legReading, continuationReading, readingByKind, readingOf, writing, writtenBy, written}
 use Rattle.parts.specs.declared.Reading.{Reading}
+
+-- ---- the size of one record alone
+
+module _ (s : List ℕ) where
+  pub size-short : length s < 133 → length s + 1 ≡ sizeColumn s
+  unfolding sizeColumn
+  size-short h = rw (lt-ltb (length s) 133 h)
+
+  pub size-no-feed : 133 ≤ length s → (getD s 132 0 ≡ 10 → ⊥) → 133 ≡ sizeColumn s
+  unfolding sizeColumn
+  size-no-feed h f = rw (le-ltb (length s) 133 h, ne-eqb (getD s 132 0) 10 f)
+
+  pub size-long : getD s 132 0 ≡ 10 → 133 < length s → 134 ≡ sizeColumn s
+  unfolding sizeColumn
+  size-long f h = rw (le-ltb (length s) 133 (omega arith), f, lt-ltb 133 (length s) h)
+
+  pub size-right : 133 ≤ length s → getD s 132 0 ≡ 10 → length s ≤ 133 → 0 ≡ sizeColumn s
+  unfolding sizeColumn
+  size-right k f h = rw (le-ltb (length s) 133 k, f, le-ltb 133 (length s) h)
+
+-- a slice of the right size has the record's columns
+pub columns-count : (s : List ℕ) {n : ℕ} → n ≡ sizeColumn s → n ≡ 0 → 132 ≡ length (take 132 s)
+unfolding sizeColumn
+columns-count s e z = by (decLt (length s) 133)
+  where
+    by : Dec (length s < 133) → 132 ≡ length (take 132 s)
+    by (yes h) = let f : 0 ≡ length s + 1 = sym z ∙ e ∙ rw (lt-ltb (length s) 133 h) in absurd (omega arith)
+    by (no h) = sym (length-take-le 132 s (omega arith))
 
 -- ---- reading
 

@@ -1,15 +1,4 @@
--- The laws of this crate.
-pub mod NumberLaws
-mod Turns
-mod ReadLaws
-mod PutLaws
-mod PieceLaws
-mod Field
-mod TextLaws
-mod QuantityLaws
-mod Placed
-mod RoundTrip
-pub mod Theorems
-pub mod ValueLaws
-pub mod Vectors
+-- The laws of the crate; what is promised stands in Theorems.
 mod AnswerLaws
+pub mod Theorems
+pub mod Vectors

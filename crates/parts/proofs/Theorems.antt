@@ -27,18 +27,18 @@ use Rattle.refusals.specs.declared.Verdict.the-variants.{Accepted, Refused}
 use Rattle.leg.specs.Judge.{stage, judged}
 use Rattle.leg.specs.Legal.{LegalLeg, Legal}
 use Rattle.leg.proofs.Legality.{accepted-iff, stage-iff}
-use Rattle.parts.specs.Pieces.{padded, held, putAll, blanks, Holds}
-use Rattle.parts.specs.Head.{continues}
-use Rattle.parts.specs.Leg.{legOf, legPieces, renderLeg}
-use Rattle.parts.specs.Continuation.{continuationOf, contentOf, continuationPieces, renderContinuation}
+use Rattle.fields.specs.Pieces.{padded, held, putAll, blanks, Holds}
+use Rattle.fields.specs.Head.{continues}
+use Rattle.fields.specs.Leg.{legOf, legPieces, renderLeg}
+use Rattle.fields.specs.Continuation.{continuationOf, contentOf, continuationPieces, renderContinuation}
 use Rattle.parts.specs.Record.{sizeColumn, columnsOf, alone, legReading, continuationReading, readingBy, readingOf, writing, writtenBy, written}
-use Rattle.parts.specs.declared.primary.Leg.{Leg}
-use Rattle.parts.specs.declared.continuation.Continuation.{Continuation}
+use Rattle.fields.specs.declared.primary.Leg.{Leg}
+use Rattle.fields.specs.declared.continuation.Continuation.{Continuation}
 use Rattle.parts.specs.declared.Parts.the-variants as parts
 use Rattle.parts.specs.declared.Reading.{Reading}
-use Rattle.parts.proofs.PieceLaws.{made-holds, length-made}
-use Rattle.parts.proofs.Placed.{leg-placed, continuation-placed}
-use Rattle.parts.proofs.RoundTrip.{leg-round, continuation-round, leg-again, continuation-again, leg-kind, continuation-not-primary}
+use Rattle.fields.proofs.PieceLaws.{made-holds, length-made}
+use Rattle.fields.proofs.Placed.{leg-placed, continuation-placed}
+use Rattle.fields.proofs.RoundTrip.{leg-round, continuation-round, leg-again, continuation-again, leg-kind, continuation-not-primary}
 
 -- ---- the round trip
 

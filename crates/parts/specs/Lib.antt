@@ -1,11 +1,2 @@
 -- What the contracts of this crate cite, and what its theorems speak of.
-pub mod Pieces
-pub mod Numbers
-pub mod Text
-pub mod Quantities
-pub mod Turn
-pub mod Head
-pub mod Leg
-pub mod Continuation
 pub mod Record
-pub mod Values

@@ -12,10 +12,10 @@ use Rattle.refusals.specs.Table.{cutShort, bufferTooShort}
 use Rattle.refusals.specs.declared.Verdict.{Verdict}
 use Rattle.refusals.specs.declared.Verdict.the-variants.{Accepted, Refused}
 use Rattle.leg.specs.Judge.{stage, judged}
-use Rattle.parts.specs.Leg.{legOf, renderLeg}
-use Rattle.parts.specs.Continuation.{continuationOf, contentOf, renderContinuation}
-use Rattle.parts.specs.declared.primary.Leg.{Leg}
-use Rattle.parts.specs.declared.continuation.Continuation.{Continuation}
+use Rattle.fields.specs.Leg.{legOf, renderLeg}
+use Rattle.fields.specs.Continuation.{continuationOf, contentOf, renderContinuation}
+use Rattle.fields.specs.declared.primary.Leg.{Leg}
+use Rattle.fields.specs.declared.continuation.Continuation.{Continuation}
 use Rattle.parts.specs.declared.Parts.{Parts}
 use Rattle.parts.specs.declared.Parts.the-variants as parts
 use Rattle.parts.specs.declared.Reading.{Reading}

@@ -1,25 +1,16 @@
 // One record alone, read into its parts and written from them. Assumes nothing of the caller: a slice of any length and content is
 // read or refused, any parts are written or refused, and a lent buffer of any length is filled to its last byte.
-pub mod continuation;
-pub mod head;
-mod numbers;
-pub mod primary;
-pub mod quantities;
-pub mod text;
-pub mod turn;
-pub mod units;
-
 ghost use mathlib.Core.Path.{_≡_};
 ghost use lib.ListN.{length, replicate};
 ghost use Rattle.columns.specs.Kinds.{kindOf};
 ghost use Rattle.refusals.specs.declared.Verdict.the-variants.{Refused};
-ghost use Rattle.parts.specs.Leg.{renderLeg};
-ghost use Rattle.parts.specs.Continuation.{renderContinuation};
+ghost use Rattle.fields.specs.Leg.{renderLeg};
+ghost use Rattle.fields.specs.Continuation.{renderContinuation};
 ghost use Rattle.parts.specs.Record.{sizeColumn, legReading, continuationReading, readingByKind, nothing, readingOf, writing, written};
-use crate::continuation::Continuation;
-use crate::continuation::content_of;
-use crate::primary::Leg;
 use columns::Kind;
+use fields::continuation::Continuation;
+use fields::continuation::content_of;
+use fields::primary::Leg;
 use refusals::Refusal;
 use refusals::Verdict;
 

@@ -16,8 +16,8 @@ use Rattle.columns.proofs.Vectors.{_at_is_, approach}
 use Rattle.leg.specs.Terminator.{inOrder, terminatorAt, terminatorOf, needs, needed, among, endsAtFix, isHolding, nameOf, numberOf}
 use Rattle.leg.specs.Stages.{oddOne, missing, companionColumn, neededOf, neededColumn}
 use Rattle.leg.specs.Judge.{stage, judgedLeg, judged}
-use Rattle.parts.specs.Quantities.{altitudeOf, distanceOf, feetOf}
-use Rattle.parts.specs.Leg.{legOf}
+use Rattle.fields.specs.Quantities.{altitudeOf, distanceOf, feetOf}
+use Rattle.fields.specs.Leg.{legOf}
 use Rattle.parts.specs.Record.{sizeColumn, alone, nothing, legReading, readingOf}
 use Rattle.parts.proofs.Vectors.{full}
 use Rattle.routes.specs.InTurn.{inTurn}

@@ -14,6 +14,7 @@ use Rattle.slices.proofs as slices
 use Rattle.refusals.proofs as refusals
 use Rattle.columns.proofs as columns
 use Rattle.leg.proofs as leg
+use Rattle.fields.proofs as fields
 use Rattle.parts.proofs as parts
 use Rattle.routes.proofs as routes
 use Rattle.corrections.proofs as corrections
@@ -164,6 +165,23 @@ unique-terminator-ends-at-fix κs a x y v w p q = (p ∙ sym q, refl)
 
 pub unique-terminator-is-holding : Determined leg.terminator.Terminator.is_holding.Kinds.ps leg.terminator.Terminator.is_holding.Kinds.r leg.terminator.Terminator.is_holding.Reads.Post
 unique-terminator-is-holding κs a x y v w p q = (p ∙ sym q, refl)
+
+-- ---- fields
+
+pub unique-leg-of : Determined fields.primary.Leg.of.Kinds.ps fields.primary.Leg.of.Kinds.r fields.primary.Leg.of.Reads.Post
+unique-leg-of κs a x y v w p q = (p ∙ sym q, refl)
+
+pub unique-leg-render : Determined fields.primary.Leg.render.Kinds.ps fields.primary.Leg.render.Kinds.r fields.primary.Leg.render.Reads.Post
+unique-leg-render κs a x y v w p q = (p ∙ sym q, refl)
+
+pub unique-continuation-of : Determined fields.continuation.Continuation.of.Kinds.ps fields.continuation.Continuation.of.Kinds.r fields.continuation.Continuation.of.Reads.Post
+unique-continuation-of κs a x y v w p q = (p ∙ sym q, refl)
+
+pub unique-continuation-render : Determined fields.continuation.Continuation.render.Kinds.ps fields.continuation.Continuation.render.Kinds.r fields.continuation.Continuation.render.Reads.Post
+unique-continuation-render κs a x y v w p q = (p ∙ sym q, refl)
+
+pub unique-content-of : Determined fields.continuation.content_of.Kinds.ps fields.continuation.content_of.Kinds.r fields.continuation.content_of.Reads.Post
+unique-content-of κs a x y v w p q = (p ∙ sym q, refl)
 
 -- ---- parts
 

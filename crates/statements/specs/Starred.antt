@@ -14,15 +14,15 @@ use Rattle.columns.proofs.Vectors.{_at_is_, approach}
 use Rattle.refusals.specs.Table.{refusal}
 use Rattle.refusals.specs.declared.Verdict.{Verdict}
 use Rattle.refusals.specs.declared.Verdict.the-variants.{Accepted, Refused}
-use Rattle.parts.specs.Quantities.{feetOf}
+use Rattle.fields.specs.Quantities.{feetOf}
 use Rattle.parts.specs.Record.{readingOf}
 use Rattle.parts.specs.declared.Parts.{Parts}
 use Rattle.parts.specs.declared.Parts.the-variants as parts
-use Rattle.parts.specs.declared.primary.Leg.{Leg}
-use Rattle.parts.specs.declared.quantities.Altitude.{Altitude}
-use Rattle.parts.specs.declared.quantities.Altitude.the-variants.{Level}
-use Rattle.parts.specs.declared.quantities.Distance.{Distance}
-use Rattle.parts.specs.declared.quantities.Distance.the-variants.{Minutes}
+use Rattle.fields.specs.declared.primary.Leg.{Leg}
+use Rattle.fields.specs.declared.quantities.Altitude.{Altitude}
+use Rattle.fields.specs.declared.quantities.Altitude.the-variants.{Level}
+use Rattle.fields.specs.declared.quantities.Distance.{Distance}
+use Rattle.fields.specs.declared.quantities.Distance.the-variants.{Minutes}
 use Rattle.parts.proofs.Vectors.{full}
 use Rattle.routes.specs.Files.{fileVerdict}
 use Rattle.routes.specs.Legal.{lines}

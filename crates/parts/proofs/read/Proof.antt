@@ -1,5 +1,5 @@
 -- A law for each way that it returns. Assumes nothing.
-use Rattle.parts.proofs.ReadLaws.{columns-count}
+use Rattle.parts.proofs.AnswerLaws.{columns-count}
 use mathlib.Core.Path.{ap, _∙_}
 use Rattle.parts.specs.Record.{nothing}
 use Rattle.refusals.specs.declared.Verdict.the-variants.{Refused}

@@ -1,5 +1,5 @@
 -- A law for each way that it returns. Assumes nothing.
-use Rattle.parts.proofs.ReadLaws.{size-short, size-no-feed, size-long, size-right}
+use Rattle.parts.proofs.AnswerLaws.{size-short, size-no-feed, size-long, size-right}
 use borrow.Author.Needs.{needs}
 use Rattle.parts.proofs.size_column.Statement.{statement}
 use Rattle.parts.proofs.size_column.Tie as tie

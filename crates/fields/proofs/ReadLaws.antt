@@ -1,0 +1,116 @@
+-- What the readers of fields answer, a law for each way that one returns.
+-- Assumes nothing.
+use mathlib.Core.Path.{_≡_, refl, sym, ap, _∙_}
+use mathlib.Core.Bool.{Bool, true, false, _&&_}
+use mathlib.Core.List.{List, [], _∷_, _++_, append-nil}
+use Prim.Native.Nat.{ℕ, zero, suc, _+_, _-_, _≤_, _<_}
+use Prim.Native.Char.{code}
+use native.Mathlib.Omega.{arith}
+use native.Mathlib.Decide.{decLt}
+use lib.Dec.{eqb, ltb}
+use lib.ListN.{length, getD, take, replicate, List·getD-eq-default, length-replicate}
+use lib.Seq.{sets, sets-eq, length-take-le}
+use borrow.Author.Tests.{eq-eqb, ne-eqb, lt-ltb, le-ltb}
+use Rattle.slices.specs.Part.{part, blank}
+use Rattle.slices.proofs.PartLaws.{getD-any, getD-part, length-part, part-part}
+use Rattle.columns.specs.Words.{value}
+use Rattle.fields.specs.Text.{letterOf}
+use Rattle.fields.specs.Turn.{turnOf}
+use Rattle.fields.specs.Quantities.{courseOf, distanceOf, altitudeOf, verticalAngleOf}
+use Rattle.fields.specs.declared.text.Letter.the-variants as letter
+use Rattle.fields.specs.declared.turn.Turn.the-variants as turn
+use Rattle.fields.specs.declared.quantities.Course.the-variants as course
+use Rattle.fields.specs.declared.quantities.Distance.the-variants as distance
+use Rattle.fields.specs.declared.quantities.Altitude.the-variants as altitude
+use Rattle.fields.specs.declared.quantities.VerticalAngle.the-variants as verticalAngle
+
+-- ---- text
+
+module _ (n i : ℕ) (xs : List ℕ) (k : ℕ) where
+  pub padded-within : k < n → getD (part n i xs) k 32 ≡ getD xs (i + k) 0
+  padded-within h = getD-any (part n i xs) k 32 0 (rw length-part h) ∙ getD-part n i xs k h
+
+  pub padded-past : n ≤ k → getD (part n i xs) k 32 ≡ 32
+  padded-past h = List·getD-eq-default (part n i xs) 32 (rw length-part h)
+
+module _ (rec : List ℕ) (at : ℕ) {b : ℕ} (e : b ≡ getD rec at 0) where
+  pub letter-absent : b ≡ 32 → letter.Absent ≡ letterOf (part 1 at rec)
+  unfolding letterOf part blank
+  letter-absent h = rw (← e, h)
+
+  pub letter-is : (b ≡ 32 → ⊥) → letter.Is b ≡ letterOf (part 1 at rec)
+  unfolding letterOf part blank
+  letter-is h = rw (← e, ne-eqb b 32 h)
+
+-- the 83 bytes copied into as many
+pub copied-whole : (bs : List ℕ) → length bs ≡ 83 → sets (replicate 83 0) 0 bs ≡ bs
+copied-whole bs e = sets-eq bs (replicate 83 0) 0 (omega arith) ∙ rw e (append-nil bs)
+
+-- ---- the turn
+
+module _ (rec : List ℕ) {b : ℕ} (e : b ≡ getD rec 43 0) where
+  pub turn-left : b ≡ code "L" → turn.Left ≡ turnOf (part 1 43 rec)
+  unfolding turnOf part
+  turn-left h = rw (← e, h)
+
+  pub turn-right : b ≡ code "R" → turn.Right ≡ turnOf (part 1 43 rec)
+  unfolding turnOf part
+  turn-right h = rw (← e, h)
+
+  pub turn-either : b ≡ code "E" → turn.Either ≡ turnOf (part 1 43 rec)
+  unfolding turnOf part
+  turn-either h = rw (← e, h)
+
+  pub turn-absent : (b ≡ code "L" → ⊥) → (b ≡ code "R" → ⊥) → (b ≡ code "E" → ⊥) → turn.Absent ≡ turnOf (part 1 43 rec)
+  unfolding turnOf part
+  turn-absent h k l = rw (← e, ne-eqb b (code "L") h, ne-eqb b (code "R") k, ne-eqb b (code "E") l)
+
+-- ---- numbers with a mark
+
+-- the byte of a field, and its digits, are those of the record
+byte-of : (n i : ℕ) (rec : List ℕ) (k : ℕ) {b : ℕ} → k < n → b ≡ getD rec (i + k) 0 → getD (part n i rec) k 0 ≡ b
+byte-of n i rec k h e = getD-part n i rec k h ∙ sym e
+
+digits-of : (m k n i : ℕ) (rec : List ℕ) {v : ℕ} → k + m ≤ n → v ≡ value (part m (i + k) rec) → value (part m k (part n i rec)) ≡ v
+digits-of m k n i rec h e = ap value (part-part m k n i rec h) ∙ sym e
+
+module _ (rec : List ℕ) (filled : blank (part 4 70 rec) ≡ false) {b : ℕ} (e : b ≡ getD rec 73 0) where
+  pub course-true : {v : ℕ} → b ≡ code "T" → v ≡ value (part 3 70 rec) → course.True (record { 0 = v }) ≡ courseOf (part 4 70 rec)
+  unfolding courseOf
+  course-true h f = rw (filled, byte-of 4 70 rec 3 (omega arith) e, h, digits-of 3 0 4 70 rec (omega arith) f)
+
+  pub course-magnetic : {v : ℕ} → (b ≡ code "T" → ⊥) → v ≡ value (part 4 70 rec) → course.Magnetic (record { 0 = v }) ≡ courseOf (part 4 70 rec)
+  unfolding courseOf
+  course-magnetic h f = rw (filled, byte-of 4 70 rec 3 (omega arith) e, ne-eqb b (code "T") h, ← f)
+
+module _ (rec : List ℕ) (holding : Bool) (filled : blank (part 4 74 rec) ≡ false) {b : ℕ} (e : b ≡ getD rec 74 0) where
+  pub distance-minutes : {v : ℕ} → (holding && eqb b (code "T")) ≡ true → v ≡ value (part 3 75 rec) → distance.Minutes (record { 0 = v }) ≡ distanceOf holding (part 4 74 rec)
+  unfolding distanceOf
+  distance-minutes h f = rw (filled, byte-of 4 74 rec 0 (omega arith) e, h, digits-of 3 1 4 74 rec (omega arith) f)
+
+  pub distance-miles : {v : ℕ} → (holding && eqb b (code "T")) ≡ false → v ≡ value (part 4 74 rec) → distance.Miles (record { 0 = v }) ≡ distanceOf holding (part 4 74 rec)
+  unfolding distanceOf
+  distance-miles h f = rw (filled, byte-of 4 74 rec 0 (omega arith) e, h, ← f)
+
+module _ (rec : List ℕ) (at : ℕ) (filled : blank (part 5 at rec) ≡ false) {b : ℕ} (e : b ≡ getD rec at 0) where
+  mark : getD (part 5 at rec) 0 0 ≡ b
+  unfolding part
+  mark = sym e
+
+  pub altitude-level : {v : ℕ} → b ≡ code "F" → v ≡ value (part 3 (at + 2) rec) → altitude.Level (record { 0 = v }) ≡ altitudeOf (part 5 at rec)
+  unfolding altitudeOf
+  altitude-level h f = rw (filled, mark, h, digits-of 3 2 5 at rec (omega arith) f)
+
+  pub altitude-below : {v : ℕ} → b ≡ code "-" → v ≡ value (part 4 (at + 1) rec) → altitude.Below (record { 0 = v }) ≡ altitudeOf (part 5 at rec)
+  unfolding altitudeOf
+  altitude-below h f = rw (filled, mark, h, digits-of 4 1 5 at rec (omega arith) f)
+
+  pub altitude-feet : {v : ℕ} → (b ≡ code "F" → ⊥) → (b ≡ code "-" → ⊥) → v ≡ value (part 5 at rec) → altitude.Feet (record { 0 = v }) ≡ altitudeOf (part 5 at rec)
+  unfolding altitudeOf
+  altitude-feet h k f = rw (filled, mark, ne-eqb b (code "F") h, ne-eqb b (code "-") k, ← f)
+
+pub vertical-down : (rec : List ℕ) {v : ℕ} → blank (part 4 102 rec) ≡ false → v ≡ value (part 3 103 rec) → verticalAngle.Down (record { 0 = v }) ≡ verticalAngleOf (part 4 102 rec)
+unfolding verticalAngleOf
+vertical-down rec filled f = rw (filled, digits-of 3 1 4 102 rec (omega arith) f)
+
+-- ---- the size of one record

@@ -1,0 +1,167 @@
+// What both kinds of record begin and end with: the route, the sequence number and the fix in columns 1-38, the file's record number
+// and the cycle in columns 124-132. Assumes nothing of the caller.
+ghost use mathlib.Core.Path.{_≡_};
+ghost use Rattle.fields.specs.Pieces.{putAll};
+ghost use Rattle.fields.specs.Head.{continues, routeOf, fixOf, headOf, cycleOf, tailOf, routePieces, placePieces, headPieces, tailPieces};
+use crate::numbers::number;
+use crate::numbers::put_number;
+use crate::text::Letter;
+use crate::text::Text;
+use crate::text::Word;
+use crate::text::put_byte;
+use slices::byte_at;
+
+// Columns 1-25, by which a route is known. Column 5 is always P.
+pub struct Route {
+    pub record_type: u8,
+    pub area: Text,
+    pub airport: Text,
+    pub icao: Text,
+    pub subsection: u8,
+    pub procedure: Text,
+    pub route_type: u8,
+    pub transition: Word,
+}
+
+// Columns 30-38.
+pub struct Fix {
+    pub identifier: Word,
+    pub icao: Word,
+    pub section: Letter,
+    pub subsection: u8,
+}
+
+pub struct Head {
+    pub route: Route,
+    pub sequence: u32,
+    pub fix: Fix,
+}
+
+// The year's last two digits, and the number of the cycle in it.
+pub struct Cycle {
+    pub year: u32,
+    pub number: u32,
+}
+
+pub struct Tail {
+    pub record_number: u32,
+    pub cycle: Cycle,
+}
+
+// Whether the number in column 39 is one of a continuation: 2 to 9, A to Z.
+pub(crate) fn is_continuation_number(b: u8) -> bool
+    ensures { λ r. ⌜ r ≡ continues b ⌝ }
+{
+    ((b'2' <= b) & (b <= b'9')) | ((b'A' <= b) & (b <= b'Z'))
+}
+
+impl Route {
+    fn of(rec: &[u8]) -> Route
+        ensures { λ r. ⌜ r ≡ routeOf (now (rec .entry)) ⌝ }
+    {
+        Route {
+            record_type: byte_at(rec, 0),
+            area: Text::of(rec, 1, 3),
+            airport: Text::of(rec, 6, 4),
+            icao: Text::of(rec, 10, 2),
+            subsection: byte_at(rec, 12),
+            procedure: Text::of(rec, 13, 6),
+            route_type: byte_at(rec, 19),
+            transition: Word::of(rec, 20, 5),
+        }
+    }
+
+    fn put(self, out: &mut [u8])
+        ensures { λ _. ⌜ now (out .exit) ≡ putAll (routePieces self) (now (out .entry)) ⌝ }
+    {
+        let transition = self.transition;
+        put_byte(&mut *out, 0, self.record_type);
+        self.area.put(&mut *out, 1, 3);
+        put_byte(&mut *out, 4, b'P');
+        self.airport.put(&mut *out, 6, 4);
+        self.icao.put(&mut *out, 10, 2);
+        put_byte(&mut *out, 12, self.subsection);
+        self.procedure.put(&mut *out, 13, 6);
+        put_byte(&mut *out, 19, self.route_type);
+        transition.put(&mut *out, 20, 5);
+    }
+}
+
+impl Fix {
+    fn of(rec: &[u8]) -> Fix
+        ensures { λ r. ⌜ r ≡ fixOf (now (rec .entry)) ⌝ }
+    {
+        Fix {
+            identifier: Word::of(rec, 29, 5),
+            icao: Word::of(rec, 34, 2),
+            section: Letter::of(rec, 36),
+            subsection: byte_at(rec, 37),
+        }
+    }
+}
+
+impl Head {
+    pub(crate) fn of(rec: &[u8]) -> Head
+        ensures { λ r. ⌜ r ≡ headOf (now (rec .entry)) ⌝ }
+    {
+        Head {
+            route: Route::of(rec),
+            sequence: number(rec, 26, 3),
+            fix: Fix::of(rec),
+        }
+    }
+
+    // Columns 27-38.
+    fn put_place(self, out: &mut [u8])
+        ensures { λ _. ⌜ now (out .exit) ≡ putAll (placePieces self) (now (out .entry)) ⌝ }
+    {
+        let fix = self.fix;
+        let identifier = fix.identifier;
+        let icao = fix.icao;
+        let section = fix.section;
+        put_number(&mut *out, 26, 3, self.sequence);
+        identifier.put(&mut *out, 29, 5);
+        icao.put(&mut *out, 34, 2);
+        section.put(&mut *out, 36);
+        put_byte(&mut *out, 37, fix.subsection);
+    }
+
+    pub(crate) fn put(self, out: &mut [u8])
+        ensures { λ _. ⌜ now (out .exit) ≡ putAll (headPieces self) (now (out .entry)) ⌝ }
+    {
+        let route = self.route;
+        route.put(&mut *out);
+        self.put_place(&mut *out);
+    }
+}
+
+impl Cycle {
+    fn of(rec: &[u8]) -> Cycle
+        ensures { λ r. ⌜ r ≡ cycleOf (now (rec .entry)) ⌝ }
+    {
+        Cycle {
+            year: number(rec, 128, 2),
+            number: number(rec, 130, 2),
+        }
+    }
+}
+
+impl Tail {
+    pub(crate) fn of(rec: &[u8]) -> Tail
+        ensures { λ r. ⌜ r ≡ tailOf (now (rec .entry)) ⌝ }
+    {
+        Tail {
+            record_number: number(rec, 123, 5),
+            cycle: Cycle::of(rec),
+        }
+    }
+
+    pub(crate) fn put(self, out: &mut [u8])
+        ensures { λ _. ⌜ now (out .exit) ≡ putAll (tailPieces self) (now (out .entry)) ⌝ }
+    {
+        let cycle = self.cycle;
+        put_number(&mut *out, 123, 5, self.record_number);
+        put_number(&mut *out, 128, 2, cycle.year);
+        put_number(&mut *out, 130, 2, cycle.number);
+    }
+}
