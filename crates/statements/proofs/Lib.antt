@@ -1,3 +1,4 @@
 -- What a customer has to believe, together.
 pub mod Starred
 pub mod Unique
+pub mod Demands
