@@ -16,6 +16,7 @@
 //! - `pick`: a log judged over its frozen file, and picking (10, 11, 12, 14)
 //! - `picks`: the stored set of picks
 //! - `pick_vectors`: how it is stored, and what this program answers to it
+//! - `times`: the inputs whose times are measured, in the same form
 
 pub mod cases;
 pub mod file;
@@ -30,6 +31,7 @@ pub mod pick_vectors;
 pub mod picks;
 pub mod record;
 pub mod report;
+pub mod times;
 pub mod wanted;
 
 pub use judge::judge;

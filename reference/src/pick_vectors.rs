@@ -77,7 +77,7 @@ fn shown(numbers: impl IntoIterator<Item = usize>) -> String {
 /// the corrections taken and the records' sources; what making the new file
 /// says; check sums of both answers by value and of the lent buffer; and the
 /// length and the check sum of some lines of the new file.
-fn answer(number: usize, case: &Case) -> String {
+pub(crate) fn answer(number: usize, case: &Case) -> String {
     let Case { frozen, log, wanted, room } = case;
     let checked = check_log(frozen, log);
     let picked = pick(frozen, log, wanted);
@@ -131,7 +131,7 @@ fn with_number(op: u8, number: usize) -> [u8; 3] {
 }
 
 /// The records, and what makes the cases out of them.
-fn instructions(set: &[Case]) -> (Vec<u8>, Vec<u8>) {
+pub(crate) fn instructions(set: &[Case]) -> (Vec<u8>, Vec<u8>) {
     let mut records = Records::default();
     let mut made: Vec<[u8; 3]> = Vec::new();
     let (mut frozen, mut log): (&[u8], &[u8]) = (&[], &[]);

@@ -668,27 +668,67 @@ fn full_file() -> Vec<Record> {
     routes.flat_map(|route| (1..=30).map(move |sequence| leg(&route, sequence, 0))).collect()
 }
 
+/// 480 records in one route.
+fn full_route() -> Vec<Record> {
+    (1..=480).map(|sequence| leg("A", sequence, 0)).collect()
+}
+
+/// The numbers of so many corrections.
+fn numbers(corrections: usize) -> Vec<u32> {
+    (1..=corrections as u32).collect()
+}
+
+/// So many of these records taken out, from all over the file, by all
+/// corrections in turn. All are wanted.
+fn outs(frozen: &[Record], lines: usize, corrections: usize) -> Case {
+    let mut outs: Vec<Correction> = vec![Vec::new(); corrections];
+    for at in 0..lines {
+        outs[at % corrections].push(out(&frozen[at * 101 % frozen.len()]));
+    }
+    case(&file(frozen), &log(&outs), &numbers(corrections))
+}
+
+/// So many times one of these records replaced, no other than the first as many
+/// as there are corrections, some of them twice. All are wanted.
+fn renewals(frozen: &[Record], times: usize, corrections: usize) -> Case {
+    let mut state = frozen.to_vec();
+    let mut renewals: Vec<Correction> = vec![Vec::new(); corrections];
+    for at in 0..times {
+        let record = &mut state[at * 37 % corrections];
+        let newer = changed(record, &[(124, &format!("{:05}", 1 + at % 3))]);
+        renewals[at % corrections].extend(replaced(record, &newer));
+        *record = newer;
+    }
+    case(&file(frozen), &log(&renewals), &numbers(corrections))
+}
+
+/// The inputs whose times are measured: two of the largest, a half and a quarter
+/// of each, in routes of 30 legs and in one route.
+pub fn timed() -> Vec<(String, Case)> {
+    let mut inputs = Vec::new();
+    for (routes, full) in [("routes of 30", full_file()), ("one route", full_route())] {
+        for (size, parts) in [("all", 1), ("half", 2), ("quarter", 4)] {
+            let part = |whole: usize| (whole + parts / 2) / parts;
+            let corrections = part(200);
+            let of = |kind: &str| format!("{kind}, {routes}, {size}");
+            inputs.push((of("D alone"), outs(&full[..part(480)], part(436), corrections)));
+            inputs.push((of("D and A"), renewals(&full[..part(260)], part(215), corrections)));
+        }
+    }
+    inputs
+}
+
 /// As many records, corrections and lines as there may be.
 fn largest() -> Vec<Case> {
     let full = full_file();
-    let all: Vec<u32> = (1..=200).collect();
+    let all = numbers(200);
     let lists: [&[u32]; 4] = [&all, &[], &[200], &[7, 150]];
-    // 436 records taken out, two or three by each correction, from all over the file.
-    let mut outs: Vec<Correction> = vec![Vec::new(); 200];
-    for at in 0..436 {
-        outs[at % 200].push(out(&full[at * 101 % 480]));
-    }
-    let mut cases = each(&file(&full), &log(&outs), &lists);
-    // 215 of 260 records replaced, some of them twice.
-    let mut state = full[..260].to_vec();
-    let mut renewals: Vec<Correction> = vec![Vec::new(); 200];
-    for at in 0..215 {
-        let record = &mut state[at * 37 % 200];
-        let newer = changed(record, &[(124, &format!("{:05}", 1 + at % 3))]);
-        renewals[at % 200].extend(replaced(record, &newer));
-        *record = newer;
-    }
-    cases.extend(each(&file(&full[..260]), &log(&renewals), &lists));
+    // 436 records taken out, two or three by each correction.
+    let Case { frozen, log: lines, .. } = outs(&full, 436, 200);
+    let mut cases = each(&frozen, &lines, &lists);
+    // 215 times one of 260 records replaced.
+    let Case { frozen, log: lines, .. } = renewals(&full[..260], 215, 200);
+    cases.extend(each(&frozen, &lines, &lists));
     // 444 records put in beside 36, by one correction, the last place first.
     let puts: Vec<Line> = full[36..].iter().rev().map(put).collect();
     cases.extend(each(&file(&full[..36]), &log(&[puts]), &[&[1], &[]]));
