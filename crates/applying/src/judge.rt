@@ -2,8 +2,8 @@
 // crate, that a state counts no more than 480 sources, an index no more than 444 lines, and that each line lies within a log of 60,000
 // bytes.
 //
-// Each route of the state costs one comparison of 25 bytes with each line of the correction; so over a whole log no more than lines times
-// records times 25 bytes.
+// Each record of the state costs one comparison of 25 bytes with the one before it, and each route one with each line of the correction; so
+// over a whole log no more than lines and corrections times records times 25 bytes. Besides, every record of a touched route is judged whole.
 ghost use mathlib.Core.Path.{_≡_};
 ghost use Prim.Native.Nat.{_+_, _-_, _≤_, _<_};
 ghost use lib.ListN.{drop, getD};

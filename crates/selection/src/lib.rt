@@ -1,8 +1,9 @@
 // Corrections carried into a frozen file: a log checked, the corrections picked that are wanted and those that they rely on, and the new
 // file that they make. Assumes nothing of the caller: any frozen file, any log, any wanted numbers, any buffer.
 //
-// Where a log has L lines and the file, at its largest, R records, a pick costs no more than L times R comparisons of 25 bytes, and L times
-// R records judged where every correction is on one route.
+// A pick goes over the log twice: once for its verdict, once with the corrections taken. For L lines and at most R records each pass makes
+// L times R comparisons of places and of routes, 29 and 25 bytes; what the lines rely on is L times L comparisons more, once. Dearest of all
+// is judging: each correction has every record of its routes judged, so R for each where all is on one route (docs/PERFORMANCE.md).
 mod carry;
 mod file;
 mod opening;
