@@ -4,7 +4,7 @@ mod StateLaws
 pub mod ApplyLaws
 mod JudgeLaws
 mod CorrectLaws
-mod RunLaws
+pub mod RunLaws
 pub mod BoundLaws
 pub mod Procedures
 pub mod Kept

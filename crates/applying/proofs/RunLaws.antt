@@ -75,11 +75,11 @@ module _ (index : Index) (n k to : ℕ) where
 
 -- ---- one turn
 
+pub same-refusal : {r s : Refusal} → Refused r ≡ Refused s → r ≡ s
+same-refusal h = cc
+
 pub came-refused : (c : Corrected) (o : Outcome) → Comes c o → {r : Refusal} → c .verdict ≡ Refused r → (o ≡ stopped r)
-came-refused c _ (refused e) q = ap stopped (same (sym e ∙ q))
-  where
-    same : {r s : Refusal} → Refused r ≡ Refused s → r ≡ s
-    same h = cc
+came-refused c _ (refused e) q = ap stopped (same-refusal (sym e ∙ q))
 came-refused c _ (stands e n x) q = absurd (never (sym q ∙ e))
 
 pub came-stands : (c : Corrected) (o : Outcome) → Comes c o → c .verdict ≡ Accepted → (o ≡ reached (inUse (c .state))) × (c .state .count ≤ 480)

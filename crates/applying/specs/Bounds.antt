@@ -43,8 +43,12 @@ ranOver frozen log T index state =
 
 -- ---- as the code gives it
 
+-- some numbers, and zeros past them
+abbrev pub padded : ℕ → List ℕ → List ℕ
+padded n xs = xs ++ replicate (n - length xs) 0
+
 unfoldable pub sourcesFor : List ℕ → Sources
-sourcesFor xs = record { count = length xs; at = xs ++ replicate (480 - length xs) 0 }
+sourcesFor xs = record { count = length xs; at = padded 480 xs }
 
 unfoldable pub ranAs : Outcome → Ran
 ranAs (stopped r) = record { verdict = Refused r; records = sourcesFor [] }

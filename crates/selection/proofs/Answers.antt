@@ -19,8 +19,8 @@ use Rattle.routes.specs.Legal.{lines, Wide}
 use Rattle.routes.specs.Places.{Every}
 use Rattle.routes.specs.Sources.{recordWithin, recordAt}
 use Rattle.routes.proofs.Lines.{length-lines}
-use Rattle.applying.specs.Bounds.{sourcesFor}
-use Rattle.selection.specs.Pick.{Pick, refusedBy, picked, pickOf, newRecords, newBytes, lineIn, filePick, pickedAs, padded}
+use Rattle.applying.specs.Bounds.{padded, sourcesFor}
+use Rattle.selection.specs.Pick.{Pick, refusedBy, picked, pickOf, newRecords, newBytes, lineIn, filePick, pickedAs}
 use Rattle.selection.proofs.Demand.{picked-demand}
 use Rattle.selection.proofs.StoredLaws.{in-use-all}
 
@@ -104,7 +104,7 @@ module _ (f l : List ℕ) where
   -- In a buffer that is lent for it they stand in front, and zeros past them.
   pub file-bytes : (lent : ℕ) (ws ns xs : List ℕ) → filePick f l lent ws ≡ picked ns xs
       → padded lent (newBytes f l (filePick f l lent ws)) ≡ lines (map (recordAt f l) xs) ++ replicate (lent - length xs * 133) 0
-  unfolding padded newBytes newRecords filePick
+  unfolding newBytes newRecords filePick
   file-bytes lent ws ns xs e =
       split (ltb lent 63840) (λ t. absurd (picked-not-refused (rw t at e)))
       (λ t.
@@ -115,5 +115,5 @@ module _ (f l : List ℕ) where
 
   -- On a refusal every byte of the buffer is 0.
   pub file-refused : (lent : ℕ) (ws : List ℕ) (r : Refusal) → filePick f l lent ws ≡ refusedBy r → padded lent (newBytes f l (filePick f l lent ws)) ≡ replicate lent 0
-  unfolding padded newBytes newRecords lines
+  unfolding newBytes newRecords lines
   file-refused lent ws r e = let z : lent - 0 ≡ lent = omega arith in rw (e, z)

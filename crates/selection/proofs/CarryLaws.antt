@@ -23,7 +23,7 @@ use Rattle.corrections.specs.declared.Index.{Index}
 use Rattle.corrections.proofs.FrontLaws.{not-said}
 use Rattle.corrections.proofs.Legality.{verdict-said}
 use Rattle.applying.specs.Apply.{Within, entriesFrom}
-use Rattle.applying.specs.Bounds.{ranOver, ranAs}
+use Rattle.applying.specs.Bounds.{padded, ranOver, ranAs}
 use Rattle.applying.specs.Correct.{Outcome, stopped, reached, corrected}
 use Rattle.applying.specs.Run.{byCorrection, onward, ran, marked}
 use Rattle.selection.specs.Reliance.{reliances, Taken}
@@ -52,6 +52,7 @@ use Rattle.selection.specs.Pick.{
 use Rattle.selection.specs.declared.Picked.{Picked}
 use Rattle.selection.specs.declared.carry.Members.{Members}
 use Rattle.applying.specs.declared.Ran.{Ran}
+use Rattle.applying.proofs.RunLaws.{same-refusal}
 use Rattle.applying.proofs.BoundLaws.{ran-bound}
 use Rattle.selection.proofs.GroupLaws.{read-by-correction}
 use Rattle.selection.proofs.IndexLaws.{first-lines, read-sound}
@@ -87,10 +88,7 @@ module _ (log : List ℕ) (index : Index) (r : Reads log index) where
 
 refused-as : (o : Reading) (r : Refusal) → indexOf o .verdict ≡ Refused r → o ≡ refused r
 unfolding indexOf
-refused-as (refused s) r e = ap refused (same e)
-  where
-    same : {x y : Refusal} → Refused x ≡ Refused y → x ≡ y
-    same h = cc
+refused-as (refused s) r e = ap refused (same-refusal e)
 refused-as (said n es) r e = absurd (never (sym e))
 
 module _ (f l : List ℕ) (index : Index) (e : index ≡ indexOf (opened f l)) where
@@ -212,14 +210,11 @@ fromRan ns o = pickedAs (ranFirst o (picked ns))
 
 ran-refused : (ns : List ℕ) (o : Outcome) {q : Refusal} → ranAs o .verdict ≡ Refused q → fromRan ns o ≡ pickedAs (refusedBy q)
 unfolding ranAs
-ran-refused ns (stopped q) e = ap (λ (y : Refusal). pickedAs (refusedBy y)) (same e)
-  where
-    same : {a b : Refusal} → Refused a ≡ Refused b → a ≡ b
-    same h = cc
+ran-refused ns (stopped q) e = ap (λ (y : Refusal). pickedAs (refusedBy y)) (same-refusal e)
 ran-refused ns (reached xs) e = absurd (never (sym e))
 
 ran-picked : (ns : List ℕ) (o : Outcome) → ranAs o .verdict ≡ Accepted
-    → record { verdict = Accepted; count = length ns; taken = ns ++ replicate (200 - length ns) 0; records = ranAs o .records } ≡ fromRan ns o
+    → record { verdict = Accepted; count = length ns; taken = padded 200 ns; records = ranAs o .records } ≡ fromRan ns o
 unfolding ranAs pickedAs
 ran-picked ns (stopped q) e = absurd (never e)
 ran-picked ns (reached xs) e = refl
@@ -251,10 +246,7 @@ module _ (f l : List ℕ) (T : Numbers) (index : Index) (r : Reads l index) {s :
 -- ---- the pick once a file and a log are open
 
 stopped-by : (o : Outcome) {r : Refusal} → outcomeVerdict o ≡ Refused r → o ≡ stopped r
-stopped-by (stopped s) e = ap stopped (same e)
-  where
-    same : {x y : Refusal} → Refused x ≡ Refused y → x ≡ y
-    same h = cc
+stopped-by (stopped s) e = ap stopped (same-refusal e)
 stopped-by (reached xs) e = absurd (never (sym e))
 
 runs-on : (o : Outcome) → outcomeVerdict o ≡ Accepted → (p : Pick) → ranFirst o (λ _. p) ≡ p
@@ -275,15 +267,15 @@ module _ (f l ws : List ℕ) (n : ℕ) (es : List Entry) {v : Verdict} (q : v �
 
 -- what is marked is taken
 pub marks-taken : (f l ws marks : List ℕ) (index : Index) (r : Reads l index) {relied : List ℕ} → wantedStage (index .corrections) 1 ws ≡ Accepted
-    → relied ≡ reliances f l index 0 (index .count) ++ replicate (444 - index .count) 0 → Taken (index .correction) relied ws marks
+    → relied ≡ reliances f l index 0 (index .count) ++ replicate (444 - index .count) 0 → Taken (index .correction) relied ws marks (length ws)
     → (i : ℕ) → i < index .corrections → marked marks (1 + i) ≡ takenOf f l (index .corrections) (entriesFrom index 0 (index .count)) ws (1 + i)
 unfolding takenOf
 marks-taken f l ws marks index r v e t i h =
     let b = read-by-correction l (r .beside) (r .corrections) (r .lines) (r .read) in
     let u : wantedStage (r .corrections) 1 ws ≡ Accepted = subst (λ (n : ℕ). wantedStage n 1 ws ≡ Accepted) (corrections-of l index r) v in
     let c = taken-closure f l (r .corrections) (r .lines) b ws marks u
-    (subst (λ (x : Index). Taken (x .correction) (reliances f l x 0 (x .count) ++ replicate (444 - x .count) 0) ws marks) (r .holds)
-    (subst (λ (x : List ℕ). Taken (index .correction) x ws marks) e t)) i in
+    (subst (λ (x : Index). Taken (x .correction) (reliances f l x 0 (x .count) ++ replicate (444 - x .count) 0) ws marks (length ws)) (r .holds)
+    (subst (λ (x : List ℕ). Taken (index .correction) x ws marks (length ws)) e t)) i in
     let s : suc i ≡ 1 + i = omega arith in
     subst (λ (k : ℕ). marked marks k ≡ takenOf f l (index .corrections) (entriesFrom index 0 (index .count)) ws k) s
     (c ∙ ap₂ (λ (n : ℕ) (es : List Entry). takenOf f l n es ws (suc i)) (sym (corrections-of l index r)) (sym (lines-of l index r)))

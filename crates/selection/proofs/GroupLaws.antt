@@ -168,7 +168,7 @@ pub record ByCorrection (n : ℕ) (es : List Entry) : Type 0 where
   pub whole : flat (byCorrection 1 n es) ≡ es
   pub few : n ≤ 200
 
-said-same : {n m : ℕ} {es fs : List Entry} → said n es ≡ said m fs → (n ≡ m) × (es ≡ fs)
+pub said-same : {n m : ℕ} {es fs : List Entry} → said n es ≡ said m fs → (n ≡ m) × (es ≡ fs)
 said-same e = (cc, cc)
 
 pub read-by-correction : (log : List ℕ) (frozen n : ℕ) (es : List Entry) → readLog log frozen ≡ said n es → ByCorrection n es

@@ -14,23 +14,25 @@ use Rattle.corrections.specs.declared.Index.{Index}
 use Rattle.corrections.proofs.TextLaws.{entriesIn}
 use Rattle.corrections.proofs.Within.{EveryEntry, Lies, legal-read, legal-lies, at-most-444}
 use Rattle.corrections.proofs.Spelling.{said-legal}
+use Rattle.selection.proofs.GroupLaws.{said-same}
 use Rattle.applying.specs.Apply.{entryAt, entriesFrom, Within}
 
 -- the line that stands where there is none
 abbrev pub noLine : Entry
 noLine = entry 0 0 0
 
+-- among zeros, and past them, there is 0
+pub zero-at : (n i : ℕ) → _≡_ {A = ℕ} (getD (replicate n 0) i 0) 0
+zero-at zero i = refl
+zero-at (suc n) zero = refl
+zero-at (suc n) (suc i) = zero-at n i
+
 -- a number past some numbers and zeros is 0
 padded-past : (xs : List ℕ) (n k : ℕ) → length xs ≤ k → getD (xs ++ replicate n 0) k 0 ≡ 0
 padded-past xs n k h =
     let i : ℕ = k - length xs in
     let e : k ≡ length xs + i = omega arith in
-    ap (λ (j : ℕ). getD (xs ++ replicate n 0) j 0) e ∙ getD-append-add xs (replicate n 0) i 0 ∙ zeros n i
-  where
-    zeros : (n i : ℕ) → _≡_ {A = ℕ} (getD (replicate n 0) i 0) 0
-    zeros zero i = refl
-    zeros (suc n) zero = refl
-    zeros (suc n) (suc i) = zeros n i
+    ap (λ (j : ℕ). getD (xs ++ replicate n 0) j 0) e ∙ getD-append-add xs (replicate n 0) i 0 ∙ zero-at n i
 
 -- numbers of the lines, and zeros behind them
 pub column-at : (g : Entry → ℕ) (es : List Entry) (k : ℕ) → g noLine ≡ 0 → getD (padded (map g es)) k 0 ≡ g (getD es k noLine)
@@ -76,9 +78,6 @@ lies-at end from to [] l k = omega arith
 lies-at end from to (e ∷ es) l zero = omega (arith, l .0 .within)
 lies-at end from to (e ∷ es) l (suc k) = lies-at end from to es (l .1) k
 
-said-lines : {n m : ℕ} {es fs : List Entry} → said n es ≡ said m fs → es ≡ fs
-said-lines e = cc
-
 module _ (log : List ℕ) (frozen n : ℕ) (es : List Entry) (e : readLog log frozen ≡ said n es) where
   pub read-sound : Sound (indexOf (said n es))
   unfolding indexOf
@@ -86,7 +85,7 @@ module _ (log : List ℕ) (frozen n : ℕ) (es : List Entry) (e : readLog log fr
     few = at-most-444 log frozen n es e;
     within = λ k.
         let l = said-legal log frozen n es e in
-        let q : entriesIn 0 0 (l .corrections) ≡ es = said-lines (sym (legal-read log frozen l) ∙ e) in
+        let q : entriesIn 0 0 (l .corrections) ≡ es = said-same (sym (legal-read log frozen l) ∙ e) .1 in
         let a : getD es k noLine .at ≤ length log = lies-at (length log) 0 (length (l .corrections)) es (subst (EveryEntry (Lies (length log) 0 (length (l .corrections)))) q (legal-lies log frozen l)) k in
         let i : getD (indexOf (said n es) .at) k 0 ≡ getD es k noLine .at = column-at (λ (x : Entry). x .at) es k refl in
         omega (arith, i, a, l .size);

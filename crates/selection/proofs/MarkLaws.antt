@@ -4,7 +4,7 @@ use mathlib.Core.Path.{_≡_, refl, sym, ap, subst, _∙_}
 use mathlib.Core.Bool.{Bool, true, false, cond, _&&_}
 use mathlib.Core.Logic.{_⊎_, inl, inr, ⊎-elim}
 use mathlib.Core.List.{List}
-use Prim.Native.Nat.{ℕ, zero, suc, _+_, _≤_, _<_}
+use Prim.Native.Nat.{ℕ, _+_, _≤_, _<_}
 use native.Mathlib.Omega.{arith}
 use borrow.Author.Tests.{eqb-true, eqb-false, ltb-true, ltb-false}
 use borrow.Author.Count.{below-more}
@@ -12,7 +12,8 @@ use lib.Dec.{eqb, ltb}
 use lib.ListN.{length, getD, set, replicate, length-set, length-replicate, List·getD-eq-default}
 use lib.Seq.{getD-set-same, getD-set-other}
 use Rattle.slices.proofs.Cases.{split, and-left, and-right}
-use Rattle.selection.specs.Reliance.{namedBy, Relies, Reach, here, step, In, ClosedMarks, Marked, Taken}
+use Rattle.selection.specs.Reliance.{namedBy, Relies, Reach, here, step, In, ClosedMarks, Spread, Marked, Taken}
+use Rattle.selection.proofs.IndexLaws.{zero-at}
 
 -- ---- what a line names
 
@@ -60,34 +61,28 @@ named-falls of relied c k p e z = let q : 0 < namedBy of relied c k = omega arit
 
 -- ---- the lines of a correction, one after the other
 
--- the marks b are the marks a with what the first k lines reach, as lines of c
+-- what the first k lines name, as lines of c, is marked
 pub record Round (of relied a b : List ℕ) (c k : ℕ) : Type 0 where
-  pub long : length b ≡ length a
-  pub keep : (i : ℕ) → In a i → In b i
-  pub only : (i : ℕ) → In b i → In a i ⊎ Reach of relied c i
-  pub closed : ClosedMarks of relied a → ClosedMarks of relied b
+  pub spread : Spread of relied a b c
   pub row : (j : ℕ) → j < k → 0 < namedBy of relied c j → In b (namedBy of relied c j)
 
 same-or-not : (i c : ℕ) → (i ≡ c) ⊎ (i ≡ c → ⊥)
 same-or-not i c = split (eqb i c) (λ t. inl (eqb-true i c t)) (λ t. inr (eqb-false i c t))
 
 module _ (of relied a : List ℕ) (c : ℕ) where
+  spread-none : Spread of relied a a c
+  spread-none = record { long = refl; keep = λ i x. x; only = λ i x. inl x; closed = λ x. x }
+
   -- nothing is marked, and c was marked or can't be
   pub marked-same : (0 < c → c < length a → In a c) → Marked of relied a a c
-  marked-same h = record { long = refl; keep = λ i x. x; only = λ i x. inl x; closed = λ x. x; has = h }
+  marked-same h = record { spread = spread-none; has = h }
 
   pub round-start : Round of relied a a c 0
-  round-start = record { long = refl; keep = λ i x. x; only = λ i x. inl x; closed = λ x. x; row = λ j h. absurd (omega arith) }
+  round-start = record { spread = spread-none; row = λ j h. absurd (omega arith) }
 
   -- a line that names nothing
   pub round-skip : (b b″ : List ℕ) (k p : ℕ) → Round of relied a b c k → p ≡ namedBy of relied c k → p ≤ 0 → b″ ≡ b → Round of relied a b″ c (k + 1)
-  round-skip b b″ k p r e h same = rw same record {
-    long = r .long;
-    keep = r .keep;
-    only = r .only;
-    closed = r .closed;
-    row = below-more _ k (r .row) (λ p. absurd (omega arith));
-  }
+  round-skip b b″ k p r e h same = rw same record { spread = r .spread; row = below-more _ k (r .row) (λ p. absurd (omega arith)) }
 
   -- a line that names p, which is marked
   pub round-call : (b b′ b″ : List ℕ) (k p : ℕ) → Round of relied a b c k → p ≡ namedBy of relied c k → 0 < p → c < length a → Marked of relied b b′ p → b″ ≡ b′
@@ -95,12 +90,16 @@ module _ (of relied a : List ℕ) (c : ℕ) where
   round-call b b′ b″ k p r e z hl m same =
       let rel : Relies of relied c p = record { line = k; named = e; some = z } in
       let lo : p < c = named-falls of relied c k p e z in
+      let s = m .spread in
+      let t = r .spread in
       rw same record {
-        long = m .long ∙ r .long;
-        keep = λ i x. m .keep i (r .keep i x);
-        only = λ i x. ⊎-elim (r .only i) (λ (y : Reach of relied p i). inr (step rel y)) (m .only i x);
-        closed = λ x. m .closed (r .closed x);
-        row = below-more _ k (λ j jk q. m .keep _ (r .row j jk q)) (λ q. subst (In b′) e (m .has z (omega (arith, r .long))));
+        spread = record {
+          long = s .long ∙ t .long;
+          keep = λ i x. s .keep i (t .keep i x);
+          only = λ i x. ⊎-elim (t .only i) (λ (y : Reach of relied p i). inr (step rel y)) (s .only i x);
+          closed = λ x. s .closed (t .closed x);
+        };
+        row = below-more _ k (λ j jk q. s .keep _ (r .row j jk q)) (λ q. subst (In b′) e (m .has z (omega (arith, t .long))));
       }
 
   has-set : (b : List ℕ) → c < length b → In (set b c 1) c
@@ -120,50 +119,41 @@ module _ (of relied a : List ℕ) (c : ℕ) where
       let w : rel .line < k = split (ltb (rel .line) (length of)) (λ t. omega (arith, ltb-true (rel .line) (length of) t))
       (λ t. absurd (omega (arith, names-none of relied c (rel .line) (ltb-false (rel .line) (length of) t)))) in
       subst (In b) (sym q) (r .row (rel .line) w z)
-  after b k r h cl d p (inr x) rel = r .closed cl d p x rel
+  after b k r h cl d p (inr x) rel = r .spread .closed cl d p x rel
 
   -- all lines, and c itself
   pub round-end : (b : List ℕ) (k : ℕ) → Round of relied a b c k → length of ≤ k → c < length a → Marked of relied a (set b c 1) c
   round-end b k r h hl =
-      let lb : c < length b = omega (arith, r .long) in
+      let t = r .spread in
+      let lb : c < length b = omega (arith, t .long) in
       record {
-        long = length-set b c 1 ∙ r .long;
-        keep = λ i x. in-set b i lb (r .keep i x);
-        only = λ i x. ⊎-elim (λ (e : i ≡ c). inr (subst (Reach of relied c) (sym e) here)) (r .only i) (in-set-back b i x);
-        closed = λ cl d p x rel. in-set b p lb (after b k r h cl d p (in-set-back b d x) rel);
+        spread = record {
+          long = length-set b c 1 ∙ t .long;
+          keep = λ i x. in-set b i lb (t .keep i x);
+          only = λ i x. ⊎-elim (λ (e : i ≡ c). inr (subst (Reach of relied c) (sym e) here)) (t .only i) (in-set-back b i x);
+          closed = λ cl d p x rel. in-set b p lb (after b k r h cl d p (in-set-back b d x) rel);
+        };
         has = λ _ _. has-set b lb;
       }
 
 -- ---- the wanted corrections, one after the other
 
--- the marks are the first i wanted corrections and what they reach
-pub record Begun (of relied wanted marks : List ℕ) (i : ℕ) : Type 0 where
-  pub long : length marks ≡ 201
-  pub only : (j : ℕ) → In marks j → (k : ℕ) × (k < length wanted) × Reach of relied (getD wanted k 0) j
-  pub closed : ClosedMarks of relied marks
-  pub has : (k : ℕ) → k < i → 0 < getD wanted k 0 → getD wanted k 0 ≤ 200 → In marks (getD wanted k 0)
-
-no-mark : (n i : ℕ) → _≡_ {A = ℕ} (getD (replicate n 0) i 0) 0
-no-mark zero i = refl
-no-mark (suc n) zero = refl
-no-mark (suc n) (suc i) = no-mark n i
-
 module _ (of relied wanted : List ℕ) where
-  pub taken-start : Begun of relied wanted (replicate 201 0) 0
+  pub taken-start : Taken of relied wanted (replicate 201 0) 0
   taken-start = record {
     long = length-replicate {A = ℕ} 201 0;
-    only = λ j x. absurd (omega (arith, no-mark 201 j));
-    closed = λ c p x. absurd (omega (arith, no-mark 201 c));
+    only = λ j x. absurd (omega (arith, zero-at 201 j));
+    closed = λ c p x. absurd (omega (arith, zero-at 201 c));
     has = λ k h. absurd (omega arith);
   }
 
-  pub taken-next : (a b : List ℕ) (i c : ℕ) → Begun of relied wanted a i → i < length wanted → c ≡ getD wanted i 0 → Marked of relied a b c → Begun of relied wanted b (i + 1)
-  taken-next a b i c g h e m = record {
-    long = m .long ∙ g .long;
-    only = λ j x. ⊎-elim (g .only j) (λ (r : Reach of relied c j). (i, h, subst (λ (d : ℕ). Reach of relied d j) e r)) (m .only j x);
-    closed = m .closed (g .closed);
-    has = below-more _ i (λ k ki z s. m .keep _ (g .has k ki z s)) (λ z s. subst (In b) e (m .has (omega arith) (omega (arith, g .long))));
+  pub taken-next : (a b : List ℕ) (i c : ℕ) → Taken of relied wanted a i → c ≡ getD wanted i 0 → Marked of relied a b c → Taken of relied wanted b (i + 1)
+  taken-next a b i c g e m = record {
+    long = m .spread .long ∙ g .long;
+    only = λ j x. ⊎-elim (λ (y : In a j). let w = g .only j y in (w .0, omega (arith, w .1), w .2)) (λ (r : Reach of relied c j). (i, omega arith, subst (λ (d : ℕ). Reach of relied d j) e r)) (m .spread .only j x);
+    closed = m .spread .closed (g .closed);
+    has = below-more _ i (λ k ki z s. m .spread .keep _ (g .has k ki z s)) (λ z s. subst (In b) e (m .has (omega arith) (omega (arith, g .long))));
   }
 
-  pub taken-end : (a : List ℕ) (i : ℕ) → Begun of relied wanted a i → length wanted ≤ i → Taken of relied wanted a
-  taken-end a i g h = record { long = g .long; only = g .only; closed = g .closed; has = λ k kl z s. g .has k (omega arith) z s }
+  pub taken-end : (a : List ℕ) (i : ℕ) → Taken of relied wanted a i → length wanted ≤ i → i ≤ length wanted → Taken of relied wanted a (length wanted)
+  taken-end a i g h k = let e : i ≡ length wanted = omega arith in subst (Taken of relied wanted a) e g

@@ -33,6 +33,7 @@ use Rattle.applying.specs.Procedures.{procedures, operations, logOf}
 use Rattle.applying.proofs.Procedures.{accepted-iff}
 use Rattle.applying.proofs.Kept.{addsIn, WideLog, Placed, placed-run}
 use Rattle.applying.proofs.Bridge.{filed, ran-records}
+use Rattle.selection.proofs.GroupLaws.{said-same}
 use Rattle.selection.proofs.LogLaws.{log-operations, wide-log, adds-log}
 
 -- ---- the frozen file
@@ -76,7 +77,7 @@ module _ (frozen log : List ℕ) where
       record {
         file = sym (alone (fileVerdict frozen)) ∙ accepts-iff (lengthStage log) (fileVerdict frozen ∷ []) .0 (w .0) .1;
         legal = l;
-        count = same-count q;
+        count = said-same q .0;
         lines = same-lines l q;
       }
     where
@@ -84,9 +85,6 @@ module _ (frozen log : List ℕ) where
           → (v ≡ Accepted) × (readLog log (length (records frozen)) ≡ said n es)
       by Accepted h = (refl, h)
       by (Refused r) h = absurd (not-said h)
-
-      same-count : {m : ℕ} {fs : List Entry} → said n es ≡ said m fs → n ≡ m
-      same-count h = cc
 
       same-lines : (l : LegalLog log (length (records frozen))) → said n es ≡ said (length (l .corrections)) (entriesIn 0 0 (l .corrections))
           → operations frozen log (byCorrection 1 n es) ≡ logOf l

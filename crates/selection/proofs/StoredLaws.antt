@@ -17,9 +17,9 @@ use Rattle.routes.specs.Places.{Every}
 use Rattle.routes.specs.Sources.{recordAt, inUse}
 use Rattle.routes.specs.declared.Sources.{Sources}
 use Rattle.routes.proofs.Lines.{length-lines}
-use Rattle.selection.specs.Pick.{Pick, refusedBy, picked, pickOf, newRecords, newBytes, filePick, pickedAs, stored, padded}
+use Rattle.selection.specs.Pick.{Pick, refusedBy, picked, pickOf, newRecords, newBytes, filePick, pickedAs, stored}
 use Rattle.selection.specs.declared.Picked.{Picked}
-use Rattle.applying.specs.Bounds.{sourcesFor}
+use Rattle.applying.specs.Bounds.{padded, sourcesFor}
 use Rattle.applying.proofs.BoundLaws.{in-use-length}
 use Rattle.selection.proofs.Demand.{picked-demand}
 
@@ -92,7 +92,7 @@ module _ (f l ws : List ℕ) where
   -- what is stored of it among zeros is the file's bytes, and zeros past them
   file-stored : (n : ℕ) (x : Pick) → pickOf f l ws ≡ x → 63840 ≤ n
       → sets (replicate n 0) 0 (stored (map (recordAt f l) (inUse (pickedAs x .records)))) ≡ padded n (newBytes f l x)
-  unfolding pickedAs newBytes newRecords padded stored lines
+  unfolding pickedAs newBytes newRecords stored lines
   file-stored n (refusedBy r) q h = ap (λ (xs : List ℕ). sets (replicate n 0) 0 (stored (map (recordAt f l) xs))) (in-use-all []) ∙ stored-front 0 n [] (omega arith)
   file-stored n (picked ns xs) q h =
       let d = picked-demand f l ws ns xs q in
@@ -109,7 +109,7 @@ module _ (f l ws : List ℕ) where
 
     pub file-short : {r : Refusal} {p : Picked} → length clean < 63840 → r ≡ bufferTooShort → p ≡ pickedAs (refusedBy r)
         → (p ≡ pickedAs (filePick f l n ws)) × (clean ≡ padded n (newBytes f l (filePick f l n ws)))
-    unfolding filePick newBytes newRecords padded lines
+    unfolding filePick newBytes newRecords lines
     file-short h e q =
         let k : n < 63840 = omega (arith, lent) in
         let z : n - 0 ≡ n = omega arith in

@@ -132,7 +132,7 @@ module _ (f l : List ℕ) (n : ℕ) (es : List Entry) (b : ByCorrection n es) wh
 
   -- ---- the marks
 
-  module _ (ws marks : List ℕ) (v : wantedStage n 1 ws ≡ Accepted) (t : Taken of relied ws marks) where
+  module _ (ws marks : List ℕ) (v : wantedStage n 1 ws ≡ Accepted) (t : Taken of relied ws marks (length ws)) where
     T : Numbers
     T = marked marks
 

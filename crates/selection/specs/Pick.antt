@@ -1,11 +1,11 @@
 -- The pick: what is refused and in which order, the corrections taken, and the records of the new file by their sources.
 -- Assumes nothing.
-use Prim.Native.Nat.{ℕ, zero, suc, _+_, _-_}
+use Prim.Native.Nat.{ℕ, zero, suc, _+_}
 use mathlib.Core.Path.{_≡_}
 use mathlib.Core.Bool.{true, cond, _||_}
 use mathlib.Core.List.{List, [], _∷_, _++_, map}
 use lib.Dec.{eqb, ltb}
-use lib.ListN.{length, getD, replicate}
+use lib.ListN.{length, getD}
 use lib.Seq.{sets}
 use Rattle.slices.specs.Part.{part, member}
 use Rattle.refusals.specs.Table.{logTooLong, notInLog, bufferTooShort}
@@ -20,7 +20,7 @@ use Rattle.routes.specs.InTurn.{inTurn}
 use Rattle.routes.specs.Legal.{lines}
 use Rattle.routes.specs.Sources.{recordAt, records, sourcesOf, inUse}
 use Rattle.routes.specs.declared.Sources.{Sources}
-use Rattle.applying.specs.Bounds.{sourcesFor}
+use Rattle.applying.specs.Bounds.{padded, sourcesFor}
 use Rattle.applying.specs.Correct.{Outcome, stopped, reached}
 use Rattle.applying.specs.Run.{byCorrection, ran}
 use Rattle.applying.specs.Procedures.{procedures, operations}
@@ -73,7 +73,7 @@ unfoldable pub grown : Members → List ℕ → Members
 grown m ns = record { count = m .count + length ns; at = sets (m .at) (m .count) ns }
 
 unfoldable pub listed : List ℕ → Members
-listed ns = record { count = length ns; at = ns ++ replicate (200 - length ns) 0 }
+listed ns = record { count = length ns; at = padded 200 ns }
 
 -- ---- the pick
 
@@ -144,14 +144,10 @@ module _ (frozen log : List ℕ) where
 -- ---- as the code gives it: zeros past the counts, and nothing but zeros on a refusal
 
 unfoldable pub pickedAs : Pick → Picked
-pickedAs (refusedBy r) = record { verdict = Refused r; count = 0; taken = replicate 200 0; records = sourcesFor [] }
-pickedAs (picked ns xs) = record { verdict = Accepted; count = length ns; taken = ns ++ replicate (200 - length ns) 0; records = sourcesFor xs }
+pickedAs (refusedBy r) = record { verdict = Refused r; count = 0; taken = padded 200 []; records = sourcesFor [] }
+pickedAs (picked ns xs) = record { verdict = Accepted; count = length ns; taken = padded 200 ns; records = sourcesFor xs }
 
 -- some records as they are written, each in 132 bytes with its line feed
 unfoldable pub stored : List (List ℕ) → List ℕ
 stored [] = []
 stored (r ∷ rs) = (part 132 0 r ++ 10 ∷ []) ++ stored rs
-
--- some bytes, and zeros past them
-unfoldable pub padded : ℕ → List ℕ → List ℕ
-padded n bs = bs ++ replicate (n - length bs) 0

@@ -58,17 +58,21 @@ In marks i = getD marks i 0 ≡ 1
 abbrev pub ClosedMarks : (of relied marks : List ℕ) → Type 0
 ClosedMarks of relied marks = (c p : ℕ) → In marks c → Relies of relied c p → In marks p
 
--- the marks b are the marks a with c and what it reaches
-pub record Marked (of relied a b : List ℕ) (c : ℕ) : Type 0 where
+-- the marks b are the marks a, and others that c reaches; what was closed still is
+pub record Spread (of relied a b : List ℕ) (c : ℕ) : Type 0 where
   pub long : length b ≡ length a
   pub keep : (i : ℕ) → In a i → In b i
   pub only : (i : ℕ) → In b i → In a i ⊎ Reach of relied c i
   pub closed : ClosedMarks of relied a → ClosedMarks of relied b
+
+-- and c itself is marked
+pub record Marked (of relied a b : List ℕ) (c : ℕ) : Type 0 where
+  pub spread : Spread of relied a b c
   pub has : 0 < c → c < length a → In b c
 
--- the marks are the wanted corrections and what they reach
-pub record Taken (of relied wanted marks : List ℕ) : Type 0 where
+-- the marks are the first n of the wanted corrections and what they reach
+pub record Taken (of relied wanted marks : List ℕ) (n : ℕ) : Type 0 where
   pub long : length marks ≡ 201
-  pub only : (i : ℕ) → In marks i → (k : ℕ) × (k < length wanted) × Reach of relied (getD wanted k 0) i
+  pub only : (i : ℕ) → In marks i → (k : ℕ) × (k < n) × Reach of relied (getD wanted k 0) i
   pub closed : ClosedMarks of relied marks
-  pub has : (k : ℕ) → k < length wanted → 0 < getD wanted k 0 → getD wanted k 0 ≤ 200 → In marks (getD wanted k 0)
+  pub has : (k : ℕ) → k < n → 0 < getD wanted k 0 → getD wanted k 0 ≤ 200 → In marks (getD wanted k 0)

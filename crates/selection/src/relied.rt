@@ -6,7 +6,7 @@ ghost use mathlib.Core.Path.{_≡_};
 ghost use mathlib.Core.Bool.{cond};
 ghost use mathlib.Core.List.{_++_};
 ghost use Prim.Native.Nat.{_-_, _≤_, _<_};
-ghost use lib.ListN.{replicate};
+ghost use lib.ListN.{length, replicate};
 ghost use Rattle.applying.specs.Apply.{Within};
 ghost use Rattle.selection.specs.Reliance.{reliedBy, reliances, namedBy, Marked, Taken};
 use applying::same_route;
@@ -96,7 +96,7 @@ fn mark<'a>(of: &'a [u32], relied: &'a [u32], marks: &mut [u8], c: usize)
 
 // The marks of the wanted corrections and of all that they rely on, one byte for each number from 0 on.
 pub(crate) fn taken<'a>(of: &'a [u32], relied: &'a [u32], wanted: &[u32]) -> [u8; 201]
-    ensures { λ r. ⌜ Taken (now (of .entry)) (now (relied .entry)) (now (wanted .entry)) r ⌝ }
+    ensures { λ r. ⌜ Taken (now (of .entry)) (now (relied .entry)) (now (wanted .entry)) r (length (now (wanted .entry))) ⌝ }
 {
     let mut marks = [0u8; 201];
     let mut i = 0;

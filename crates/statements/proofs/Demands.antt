@@ -30,7 +30,8 @@ use Rattle.corrections.specs.Reading.{refused, readLog, indexOf}
 use Rattle.corrections.specs.Text.{LegalLog, GoesWrong}
 use Rattle.corrections.proofs.Legality as corrections
 use Rattle.corrections.proofs.Wrong.{goes-wrong}
-use Rattle.selection.specs.Pick.{wantedStage, refusedBy, picked, logVerdict, pickOf, newBytes, filePick, padded}
+use Rattle.selection.specs.Pick.{wantedStage, refusedBy, picked, logVerdict, pickOf, newBytes, filePick}
+use Rattle.applying.specs.Bounds.{padded}
 use Rattle.selection.proofs.Demand.{Demanded, picked-demand, pick-iff}
 use Rattle.selection.proofs.Answers as answers
 

@@ -130,7 +130,7 @@ mark-same-length : (t : ℕ) → mark-lts.Need-same-length (
   mark-below t,
   mark.Post,
 ) (mark-at t) mark.Post mark-Inv-loop mark-μ-loop
-mark-same-length t c = length-set (c .before .loop .marks) _ 1 ∙ c .before .loop .inv .3 .long
+mark-same-length t c = length-set (c .before .loop .marks) _ 1 ∙ c .before .loop .inv .3 .spread .long
 
 mark-returns-4 : (t : ℕ) → mark-lts.Need-returns-4 (
   named-reads.Asked,

@@ -1,15 +1,16 @@
 -- The invariant: the first wanted corrections, and what they reach, are marked. Assumes nothing.
+use Rattle.selection.specs.Reliance.{Taken}
 use lib.ListN.{length}
 use Prim.Native.Nat.{_-_, _≤_}
 use mathlib.Core.Path.{refl}
-use Rattle.selection.proofs.MarkLaws.{Begun, taken-start, taken-next, taken-end}
+use Rattle.selection.proofs.MarkLaws.{taken-start, taken-next, taken-end}
 use borrow.Author.Needs.{needs}
 use native.Mathlib.Omega.{arith}
 use Rattle.selection.proofs.relied.taken.Statement.{statement}
 use Rattle.selection.proofs.relied.taken.Tie as tie
 
 abbrev Inv-loop : tie.InvT-loop
-Inv-loop of relied wanted marks₀ i₀ marks i = (i ≤ length wanted) × Begun of relied wanted marks i
+Inv-loop of relied wanted marks₀ i₀ marks i = (i ≤ length wanted) × Taken of relied wanted marks i
 
 abbrev μ-loop : tie.MeasureT-loop
 μ-loop of relied wanted marks₀ i₀ marks i = length wanted - i
@@ -41,10 +42,10 @@ loop-less c = search needs
 loop-again : tie.Need-loop-again Inv-loop μ-loop
 loop-again c =
     let turn = c .before .before .before .before in
-    (search needs, taken-next _ _ _ _ _ _ _ (turn .before .loop .inv .1) (turn .loop-test .taken) refl (c .before .mark .ensures))
+    (search needs, taken-next _ _ _ _ _ _ _ (turn .before .loop .inv .1) refl (c .before .mark .ensures))
 
 returns : tie.Need-returns Inv-loop μ-loop
-returns c = taken-end _ _ _ _ _ (c .before .loop .inv .1) (c .loop-test .left)
+returns c = taken-end _ _ _ _ _ (c .before .loop .inv .1) (c .loop-test .left) (c .before .loop .inv .0)
 
 pub taken-spec : {M : Type 1} → statement M
 taken-spec =
