@@ -2,7 +2,6 @@
 // more than 480 sources, an index no more than 444 lines, and that each line lies within a log of 60,000 bytes.
 //
 // A line costs one search over the records, at most 480 comparisons of 29 bytes.
-ghost use mathlib.Core.Path.{_≡_};
 ghost use Prim.Native.Nat.{_-_, _≤_};
 ghost use Rattle.corrections.specs.Reading.{entry};
 ghost use Rattle.routes.specs.Sources.{inUse};

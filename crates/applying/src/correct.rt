@@ -4,6 +4,7 @@ ghost use Prim.Native.Nat.{_-_, _≤_};
 ghost use Rattle.routes.specs.Sources.{inUse};
 ghost use Rattle.applying.specs.Apply.{Within, entriesFrom};
 ghost use Rattle.applying.specs.Correct.{corrected, Comes};
+ghost use Rattle.applying.specs.Known.{Known};
 use crate::apply::apply_lines;
 use crate::judge::judge_touched;
 use corrections::Index;
@@ -21,13 +22,14 @@ pub(crate) struct Corrected {
 pub(crate) fn correct<'a>(
     frozen: &'a [u8],
     log: &'a [u8],
+    known: &[u32],
     index: Index,
     from: usize,
     to: usize,
     n: usize,
     state: Sources,
 ) -> Corrected
-    requires { ⌜ (state .count ≤ 480) × (to ≤ 444) × Within index ⌝ }
+    requires { ⌜ (state .count ≤ 480) × (to ≤ 444) × Within index × Known (now frozen) (now log) (now known) ⌝ }
     ensures { λ c. ⌜ Comes c (corrected (now (frozen .entry)) (now (log .entry)) n (entriesFrom index from (to - from)) (inUse state)) ⌝ }
 {
     let change = apply_lines(frozen, log, index, from, to, state);
@@ -38,7 +40,7 @@ pub(crate) fn correct<'a>(
             state: state,
         };
     }
-    let verdict = judge_touched(frozen, log, index, from, to, next);
+    let verdict = judge_touched(frozen, log, known, index, from, to, next);
     match verdict {
         Verdict::Accepted => Corrected {
             verdict: Verdict::Accepted,

@@ -1,19 +1,29 @@
 // The routes that a correction's lines name, each judged alone in the state that the correction left. Assumes of its callers, all in this
-// crate, that a state counts no more than 480 sources, an index no more than 444 lines, and that each line lies within a log of 60,000
-// bytes.
+// crate, that a state counts no more than 480 sources, an index no more than 444 lines, that each line lies within a log of 60,000 bytes, and
+// that what is known to be legal is so.
 //
-// Each record of the state costs one comparison of 25 bytes with the one before it, and each route one with each line of the correction; so
-// over a whole log no more than lines and corrections times records times 25 bytes. Besides, every record of a touched route is judged whole.
+// Each record of the state costs one comparison of 25 bytes with the first of its route, each route one with each line of the correction, and
+// each record of a touched route its comparison with the primary before it. Fields are only judged where a record is not known to be legal.
 ghost use mathlib.Core.Path.{_≡_};
+ghost use mathlib.Core.Bool.{true};
 ghost use Prim.Native.Nat.{_+_, _-_, _≤_, _<_};
 ghost use lib.ListN.{drop, getD};
-ghost use Rattle.routes.specs.Sources.{inUse};
+ghost use Rattle.refusals.specs.declared.Verdict.the-variants.{Accepted};
+ghost use Rattle.routes.specs.Sources.{inUse, recordsIn};
+ghost use Rattle.routes.specs.Stages.{nothing};
+ghost use Rattle.routes.specs.Walk.{walkFrom, walked};
 ghost use Rattle.applying.specs.Apply.{Within, entriesFrom, touched, together, touchedJudged};
+ghost use Rattle.applying.specs.Known.{Known};
+use crate::known::knows;
 use crate::same_route;
 use corrections::Index;
 use refusals::Verdict;
 use routes::Sources;
+use routes::finish;
+use routes::judge_behind;
 use routes::judge_range;
+use routes::primary_after;
+use routes::record_at;
 
 // Whether a line from `from` up to `to` names the route of a source.
 fn touches<'a>(
@@ -56,16 +66,71 @@ fn route_end<'a>(frozen: &'a [u8], log: &'a [u8], state: Sources, i: usize) -> u
     k
 }
 
+// Whether the records of a range are all known to be legal, and each may stand behind those before it. Where they are not, nothing is said.
+fn surely_walks<'a>(
+    frozen: &'a [u8],
+    log: &'a [u8],
+    known: &[u32],
+    state: Sources,
+    from: usize,
+    to: usize,
+) -> bool
+    requires { ⌜ (to ≤ state .count) × (state .count ≤ 480) × Known (now frozen) (now log) (now known) ⌝ }
+    ensures { λ b. ⌜ (b ≡ true → walkFrom nothing 1 (recordsIn (now (frozen .entry)) (now (log .entry)) state from to) ≡ Accepted) ⌝ }
+{
+    let mut primary = &frozen[0..0];
+    let mut before = &frozen[0..0];
+    let mut i = from;
+    while i < to {
+        let source = state.at[i];
+        if !knows(known, source) {
+            return false;
+        }
+        let rec = record_at(frozen, log, source);
+        let verdict = judge_behind(primary, before, rec, i - from + 1);
+        match verdict {
+            Verdict::Accepted => {}
+            Verdict::Refused(_) => {
+                return false;
+            }
+        }
+        let last = primary_after(primary, rec);
+        primary = last;
+        before = rec;
+        i += 1;
+    }
+    true
+}
+
+// Judges the route of a range. The walk that judges every field is only asked where the route does not surely stand; it tells the refusal.
+fn judge_route<'a>(
+    frozen: &'a [u8],
+    log: &'a [u8],
+    known: &[u32],
+    state: Sources,
+    from: usize,
+    to: usize,
+) -> Verdict
+    requires { ⌜ (to ≤ state .count) × (state .count ≤ 480) × Known (now frozen) (now log) (now known) ⌝ }
+    ensures { λ r. ⌜ r ≡ walked (recordsIn (now (frozen .entry)) (now (log .entry)) state from to) ⌝ }
+{
+    if surely_walks(frozen, log, known, state, from, to) {
+        return finish(frozen, log, state, from, to);
+    }
+    judge_range(frozen, log, state, from, to)
+}
+
 // Judges the routes that a line from `from` up to `to` names, in rising order; the first that is refused gives the verdict.
 pub(crate) fn judge_touched<'a>(
     frozen: &'a [u8],
     log: &'a [u8],
+    known: &[u32],
     index: Index,
     from: usize,
     to: usize,
     state: Sources,
 ) -> Verdict
-    requires { ⌜ (state .count ≤ 480) × (to ≤ 444) × Within index ⌝ }
+    requires { ⌜ (state .count ≤ 480) × (to ≤ 444) × Within index × Known (now frozen) (now log) (now known) ⌝ }
     ensures { λ r. ⌜ r ≡ touchedJudged (now (frozen .entry)) (now (log .entry)) (entriesFrom index from (to - from)) 0 (inUse state) ⌝ }
 {
     let count = state.count;
@@ -74,7 +139,7 @@ pub(crate) fn judge_touched<'a>(
         let source = state.at[i];
         let end = route_end(frozen, log, state, i);
         if touches(frozen, log, index, from, to, source) {
-            let verdict = judge_range(frozen, log, state, i, end);
+            let verdict = judge_route(frozen, log, known, state, i, end);
             match verdict {
                 Verdict::Accepted => {}
                 Verdict::Refused(r) => {

@@ -3,6 +3,7 @@
 mod apply;
 mod correct;
 mod judge;
+mod known;
 mod series;
 mod state;
 
@@ -13,6 +14,7 @@ ghost use Rattle.routes.specs.Sources.{recordAt};
 ghost use Rattle.applying.specs.Run.{marked};
 ghost use Rattle.applying.specs.Bounds.{ranOver, ranAs};
 use corrections::Index;
+use known::known_of;
 use refusals::Verdict;
 use routes::Sources;
 use routes::record_at;
@@ -56,7 +58,8 @@ pub fn run<'a>(frozen: &'a [u8], log: &'a [u8], index: Index, marks: &[u8], stat
             return refused_run(r);
         }
     }
-    let done = run_marked(frozen, log, index, marks, state);
+    let known = known_of(frozen, log, index, state);
+    let done = run_marked(frozen, log, &known, index, marks, state);
     let verdict = done.verdict;
     match verdict {
         Verdict::Accepted => {}

@@ -1,5 +1,5 @@
 // The corrections of a log, one after the other, those that are marked. `run_marked` assumes of its callers what one correction does, which
-// `bounds` makes sure of.
+// `bounds` and `known_of` make sure of.
 ghost use mathlib.Core.Path.{_≡_};
 ghost use mathlib.Core.Bool.{cond};
 ghost use Prim.Native.Nat.{_+_, _-_, _≤_};
@@ -7,6 +7,7 @@ ghost use Rattle.routes.specs.Sources.{inUse};
 ghost use Rattle.applying.specs.Apply.{Within, entriesFrom};
 ghost use Rattle.applying.specs.Correct.{Comes, corrected, stopped, reached};
 ghost use Rattle.applying.specs.Run.{leading, byCorrection, ran, marked};
+ghost use Rattle.applying.specs.Known.{Known};
 ghost use Rattle.applying.specs.Bounds.{boundStage, sourcesFor, ranAs};
 use crate::Ran;
 use crate::correct::Corrected;
@@ -39,17 +40,18 @@ fn correct_if<'a>(
     marked: bool,
     frozen: &'a [u8],
     log: &'a [u8],
+    known: &[u32],
     index: Index,
     from: usize,
     to: usize,
     n: usize,
     state: Sources,
 ) -> Corrected
-    requires { ⌜ (state .count ≤ 480) × (to ≤ 444) × Within index ⌝ }
+    requires { ⌜ (state .count ≤ 480) × (to ≤ 444) × Within index × Known (now frozen) (now log) (now known) ⌝ }
     ensures { λ c. ⌜ Comes c (cond marked (corrected (now (frozen .entry)) (now (log .entry)) n (entriesFrom index from (to - from)) (inUse state)) (reached (inUse state))) ⌝ }
 {
     if marked {
-        return correct(frozen, log, index, from, to, n, state);
+        return correct(frozen, log, known, index, from, to, n, state);
     }
     Corrected {
         verdict: Verdict::Accepted,
@@ -61,11 +63,12 @@ fn correct_if<'a>(
 pub(crate) fn run_marked<'a>(
     frozen: &'a [u8],
     log: &'a [u8],
+    known: &[u32],
     index: Index,
     marks: &[u8],
     state: Sources,
 ) -> Corrected
-    requires { ⌜ (state .count ≤ 480) × (index .count ≤ 444) × Within index ⌝ }
+    requires { ⌜ (state .count ≤ 480) × (index .count ≤ 444) × Within index × Known (now frozen) (now log) (now known) ⌝ }
     ensures { λ c. ⌜ Comes c (ran (now (frozen .entry)) (now (log .entry)) (marked (now (marks .entry))) 1 (byCorrection 1 (index .corrections) (entriesFrom index 0 (index .count))) (inUse state)) ⌝ }
 {
     let total = index.corrections;
@@ -75,7 +78,7 @@ pub(crate) fn run_marked<'a>(
     while n < total {
         let to = lines_end(index, k, n + 1);
         let marked = is_marked(marks, n + 1);
-        let next = correct_if(marked, frozen, log, index, k, to, n + 1, now);
+        let next = correct_if(marked, frozen, log, known, index, k, to, n + 1, now);
         let verdict = next.verdict;
         match verdict {
             Verdict::Accepted => {}

@@ -3,9 +3,9 @@
 ghost use mathlib.Core.Path.{_≡_};
 ghost use Prim.Native.Nat.{_≤_, _<_};
 ghost use lib.ListN.{drop};
-ghost use Rattle.slices.specs.Order.{order, equal};
+ghost use Rattle.slices.specs.Order.{order};
 ghost use Rattle.routes.specs.Places.{placeOf};
-ghost use Rattle.routes.specs.Sources.{recordAt, inUse};
+ghost use Rattle.routes.specs.Sources.{inUse};
 ghost use Rattle.applying.specs.State.{reached, putAt, leftOut, before, hasPlace, isRecord, withSource, withoutRecord, Gives};
 use routes::Sources;
 use routes::record_at;

@@ -39,10 +39,9 @@ unfolding inTurn
 in-turn-cons Accepted vs = alone (inTurn vs)
 in-turn-cons (Refused r) vs = refl
 
--- four, as the code takes them
-pub four-in-turn : (u v w x : Verdict) {y z r : Verdict} → y ≡ inTurn (w ∷ x ∷ []) → z ≡ inTurn (v ∷ y ∷ []) → r ≡ inTurn (u ∷ z ∷ [])
-    → r ≡ inTurn (u ∷ v ∷ w ∷ x ∷ [])
-four-in-turn u v w x p q e = e ∙ rw (q, p, in-turn-cons v (w ∷ x ∷ [])) (in-turn-cons u (v ∷ w ∷ x ∷ []))
+-- three, as the code takes them
+pub three-in-turn : (u v w : Verdict) {x r : Verdict} → x ≡ inTurn (v ∷ w ∷ []) → r ≡ inTurn (u ∷ x ∷ []) → r ≡ inTurn (u ∷ v ∷ w ∷ [])
+three-in-turn u v w p e = e ∙ rw p (in-turn-cons u (v ∷ w ∷ []))
 
 pub accepts-iff : (v : Verdict) (vs : List Verdict) → (inTurn (v ∷ vs) ≡ Accepted) ↔ ((v ≡ Accepted) × (inTurn vs ≡ Accepted))
 unfolding inTurn

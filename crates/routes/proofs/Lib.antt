@@ -9,5 +9,5 @@ pub mod Routes
 pub mod Lines
 pub mod Legality
 pub mod FirstLaws
-mod Turns
+pub mod Turns
 mod Vectors

@@ -14,14 +14,20 @@ use Rattle.leg.specs.Judge.{judged}
 use Rattle.routes.specs.InTurn.{inTurn}
 use Rattle.routes.specs.Stages.{Seen, seen, nothing, awaits, continuationStage, sequenceStage, orderStage, legStage}
 
--- one record after those seen: 3, 4 and 5 by itself, then 6, 7 and 8
-abbrev pub stagesAfter : Seen → (place : ℕ) → List ℕ → List Verdict
-stagesAfter s place rec =
-    judged place rec ∷
+-- one record by what was seen before it: 6, 7 and 8
+abbrev pub stagesBehind : Seen → (place : ℕ) → List ℕ → List Verdict
+stagesBehind s place rec =
     continuationStage 38 39 (kindOf rec) s place rec ∷
     orderStage 25 (kindOf rec) (s .primary) place rec (sequenceStage (s .primary) place rec) ∷
     legStage 25 (kindOf rec) (s .primary) place rec ∷
     []
+
+unfoldable pub judgedBehind : Seen → (place : ℕ) → List ℕ → Verdict
+judgedBehind s place rec = inTurn (stagesBehind s place rec)
+
+-- one record after those seen: 3, 4 and 5 by itself, then 6, 7 and 8
+abbrev pub stagesAfter : Seen → (place : ℕ) → List ℕ → List Verdict
+stagesAfter s place rec = judged place rec ∷ stagesBehind s place rec
 
 unfoldable pub judgedNext : Seen → (place : ℕ) → List ℕ → Verdict
 judgedNext s place rec = inTurn (stagesAfter s place rec)

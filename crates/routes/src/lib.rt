@@ -11,7 +11,7 @@ ghost use lib.ListN.{length};
 ghost use Rattle.routes.specs.InTurn.{inTurn};
 ghost use Rattle.routes.specs.Sources.{recordAt, recordsIn, sourcesOf};
 ghost use Rattle.routes.specs.Stages.{seen, nothing};
-ghost use Rattle.routes.specs.Walk.{judgedNext, primaryAfter, walkFrom, finished, walked};
+ghost use Rattle.routes.specs.Walk.{judgedBehind, judgedNext, primaryAfter, walkFrom, finished, walked};
 ghost use Rattle.routes.specs.Files.{tailStage, fileVerdict};
 use columns::Kind;
 use refusals::Refusal;
@@ -62,17 +62,25 @@ pub fn sources_of(file: &[u8]) -> Sources
     found
 }
 
-// Judges one record after the last primary and the record before it: 3, 4, 5 by itself, then 6, 7, 8.
-fn judge_next<'a>(primary: &'a [u8], before: &'a [u8], rec: &'a [u8], place: usize) -> Verdict
-    ensures { λ r. ⌜ r ≡ judgedNext (seen (now (primary .entry)) (now (before .entry))) place (now (rec .entry)) ⌝ }
+// Judges one record by what stands before it, the last primary and the record before this one: 6, 7, 8. Both are empty where nothing does.
+pub fn judge_behind<'a>(primary: &'a [u8], before: &'a [u8], rec: &'a [u8], place: usize) -> Verdict
+    ensures { λ r. ⌜ r ≡ judgedBehind (seen (now (primary .entry)) (now (before .entry))) place (now (rec .entry)) ⌝ }
 {
-    let alone = leg::judge(rec, place);
     let kind = columns::kind_of(rec);
     let continued = stages::continuation_stage(HEAD, NUMBER, kind, primary, before, rec, place);
     let sequence = stages::sequence_stage(primary, rec, place);
     let ordered = stages::order_stage(KEY, kind, primary, rec, place, sequence);
     let flown = stages::leg_stage(KEY, kind, primary, rec, place);
-    in_turn(alone, in_turn(continued, in_turn(ordered, flown)))
+    in_turn(continued, in_turn(ordered, flown))
+}
+
+// Judges one record after the last primary and the record before it: 3, 4, 5 by itself, then 6, 7, 8.
+fn judge_next<'a>(primary: &'a [u8], before: &'a [u8], rec: &'a [u8], place: usize) -> Verdict
+    ensures { λ r. ⌜ r ≡ judgedNext (seen (now (primary .entry)) (now (before .entry))) place (now (rec .entry)) ⌝ }
+{
+    let alone = leg::judge(rec, place);
+    let behind = judge_behind(primary, before, rec, place);
+    in_turn(alone, behind)
 }
 
 // The first of two verdicts that refuses.
@@ -86,7 +94,7 @@ fn in_turn(first: Verdict, next: Verdict) -> Verdict
 }
 
 // The last primary once this record was seen.
-fn primary_after<'a>(primary: &'a [u8], rec: &'a [u8]) -> &'a [u8]
+pub fn primary_after<'a>(primary: &'a [u8], rec: &'a [u8]) -> &'a [u8]
     ensures { λ r. ⌜ now r ≡ primaryAfter (now (primary .entry)) (now (rec .entry)) ⌝ }
 {
     let kind = columns::kind_of(rec);
@@ -130,8 +138,14 @@ fn walk<'a>(frozen: &'a [u8], log: &'a [u8], sources: Sources, from: usize, to: 
     Verdict::Accepted
 }
 
-// Whether a continuation is missing past the last record of a range of sources.
-fn finish<'a>(frozen: &'a [u8], log: &'a [u8], sources: Sources, from: usize, to: usize) -> Verdict
+// Whether a continuation is missing past the last record of a range of sources, which are read as `judge_range` reads them.
+pub fn finish<'a>(
+    frozen: &'a [u8],
+    log: &'a [u8],
+    sources: Sources,
+    from: usize,
+    to: usize,
+) -> Verdict
     ensures { λ r. ⌜ r ≡ finished (recordsIn (now (frozen .entry)) (now (log .entry)) sources from to) ⌝ }
 {
     let count = sources.count;

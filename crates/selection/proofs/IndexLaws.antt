@@ -16,16 +16,11 @@ use Rattle.corrections.proofs.Within.{EveryEntry, Lies, legal-read, legal-lies,
 use Rattle.corrections.proofs.Spelling.{said-legal}
 use Rattle.selection.proofs.GroupLaws.{said-same}
 use Rattle.applying.specs.Apply.{entryAt, entriesFrom, Within}
+use Rattle.applying.proofs.KnownLaws.{zero-at}
 
 -- the line that stands where there is none
 abbrev pub noLine : Entry
 noLine = entry 0 0 0
-
--- among zeros, and past them, there is 0
-pub zero-at : (n i : ℕ) → _≡_ {A = ℕ} (getD (replicate n 0) i 0) 0
-zero-at zero i = refl
-zero-at (suc n) zero = refl
-zero-at (suc n) (suc i) = zero-at n i
 
 -- a number past some numbers and zeros is 0
 padded-past : (xs : List ℕ) (n k : ℕ) → length xs ≤ k → getD (xs ++ replicate n 0) k 0 ≡ 0

@@ -2,8 +2,8 @@
 // file that they make. Assumes nothing of the caller: any frozen file, any log, any wanted numbers, any buffer.
 //
 // A pick goes over the log twice: once for its verdict, once with the corrections taken. For L lines and at most R records each pass makes
-// L times R comparisons of places and of routes, 29 and 25 bytes; what the lines rely on is L times L comparisons more, once. Dearest of all
-// is judging: each correction has every record of its routes judged, so R for each where all is on one route (docs/PERFORMANCE.md).
+// at most L times R comparisons of places, of routes, and of records with those before them, 25 to 53 bytes each, and judges L and R records
+// by themselves; what the lines rely on is L times L comparisons more, once (docs/PERFORMANCE.md).
 mod carry;
 mod file;
 mod opening;

@@ -202,6 +202,15 @@ unique-record-at κs a x y v w p q = (p ∙ sym q, refl)
 pub unique-sources-of : Determined routes.sources_of.Kinds.ps routes.sources_of.Kinds.r routes.sources_of.Reads.Post
 unique-sources-of κs a x y v w p q = (p ∙ sym q, refl)
 
+pub unique-judge-behind : Determined routes.judge_behind.Kinds.ps routes.judge_behind.Kinds.r routes.judge_behind.Reads.Post
+unique-judge-behind κs a x y v w p q = (p ∙ sym q, refl)
+
+pub unique-primary-after : DeterminedAs routes.primary_after.Kinds.ps routes.primary_after.Kinds.r (λ κs. now) routes.primary_after.Reads.Post
+unique-primary-after κs a x y v w p q = (p ∙ sym q, refl)
+
+pub unique-finish : Determined routes.finish.Kinds.ps routes.finish.Kinds.r routes.finish.Reads.Post
+unique-finish κs a x y v w p q = (p ∙ sym q, refl)
+
 pub unique-judge-range : Determined routes.judge_range.Kinds.ps routes.judge_range.Kinds.r routes.judge_range.Reads.Post
 unique-judge-range κs a x y v w p q = (p ∙ sym q, refl)
 

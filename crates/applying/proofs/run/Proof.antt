@@ -22,10 +22,19 @@ returns c =
     let first = c .before .before .before .before in
     run-unbounded _ _ _ _ _ (first .bounds .ensures) (c .before .before .bound .given .1) (c .refused-run .ensures)
 
-run-marked-requires : tie.Need-run-marked-requires
-run-marked-requires c κs =
+known-of-requires : tie.Need-known-of-requires
+known-of-requires c κs =
     let b = passed _ _ (sym (c .enum-told .given .1) ∙ c .before .before .bounds .ensures) in
     (b .records, b .lines, b .within)
+
+slice-aggregate-run-marked : tie.Need-slice-aggregate-run-marked
+slice-aggregate-run-marked c = search needs
+
+run-marked-requires : tie.Need-run-marked-requires
+run-marked-requires c κs =
+    let told = c .before .before in
+    let b = passed _ _ (sym (told .enum-told .given .1) ∙ told .before .before .bounds .ensures) in
+    (b .records, b .lines, b .within, c .before .known-of .ensures)
 
 enum-told-2 : tie.Need-enum-told-2
 enum-told-2 c = search needs
@@ -39,21 +48,21 @@ refused-run-requires-2 c κs = search needs
 returns-2 : tie.Need-returns-2
 returns-2 c =
     let done = c .before .before .before .before in
-    let told = done .before in
+    let told = done .before .before .before in
     run-refused _ _ _ _ _ (told .before .before .bounds .ensures) (told .enum-told .given .1) _ (done .run-marked .ensures) (c .before .before .verdict .given .1) (c .refused-run2 .ensures)
 
 cleared-requires : tie.Need-cleared-requires
 cleared-requires c κs =
     let told2 = c .before in
     let done = told2 .before .before in
-    let told = done .before in
+    let told = done .before .before .before in
     run-count _ _ _ _ _ (told .before .before .bounds .ensures) (told .enum-told .given .1) _ (done .run-marked .ensures) (told2 .enum-told2 .given .1)
 
 returns-3 : tie.Need-returns-3
 returns-3 c =
     let told2 = c .before .before in
     let done = told2 .before .before in
-    let told = done .before in
+    let told = done .before .before .before in
     run-stands _ _ _ _ _ (told .before .before .bounds .ensures) (told .enum-told .given .1) _ (done .run-marked .ensures) (told2 .enum-told2 .given .1) (c .cleared .ensures)
 
 pub run-spec : {M : Type 1} → statement M
@@ -65,6 +74,8 @@ run-spec =
     enum-known-bound
     refused-run-requires
     returns
+    known-of-requires
+    slice-aggregate-run-marked
     run-marked-requires
     enum-told-2
     enum-known-verdict

@@ -18,8 +18,8 @@ returns c = not-applied _ _ _ _ _ _ (c .before .before .before .before .apply-li
 
 judge-touched-requires : tie.Need-judge-touched-requires
 judge-touched-requires c κs =
-    let pre = c .before .before .before .before .before .before .pre in
-    (count-kept _ _ (c .before .before .before .apply-lines .ensures) (is-done _ (c .if1 .left)), pre .1, pre .2)
+    let pre = c .before .before .before .before .before .before .before .pre in
+    (count-kept _ _ (c .before .before .before .apply-lines .ensures) (is-done _ (c .if1 .left)), pre .1, pre .2, pre .3)
 
 enum-told : tie.Need-enum-told
 enum-told c = search needs

@@ -12,10 +12,10 @@ use Rattle.applying.proofs.judge.judge_touched.Statement.{statement}
 use Rattle.applying.proofs.judge.judge_touched.Tie as tie
 
 abbrev Inv-loop : tie.InvT-loop
-Inv-loop frozen log index from to state count i₀ i = (i ≤ state .count) × (touchedJudged frozen log (entriesFrom index from (to - from)) 0 (inUse state) ≡ touchedJudged frozen log (entriesFrom index from (to - from)) 0 (drop i (inUse state)))
+Inv-loop frozen log known index from to state count i₀ i = (i ≤ state .count) × (touchedJudged frozen log (entriesFrom index from (to - from)) 0 (inUse state) ≡ touchedJudged frozen log (entriesFrom index from (to - from)) 0 (drop i (inUse state)))
 
 abbrev μ-loop : tie.MeasureT-loop
-μ-loop frozen log index from to state count i₀ i = count - i
+μ-loop frozen log known index from to state count i₀ i = count - i
 
 loop-holds : tie.Need-loop-holds Inv-loop μ-loop
 loop-holds c = (search needs, refl)
@@ -32,8 +32,12 @@ route-end-requires c κs = search needs
 touches-requires : tie.Need-touches-requires Inv-loop μ-loop
 touches-requires c κs = search needs
 
-judge-range-requires : tie.Need-judge-range-requires Inv-loop μ-loop
-judge-range-requires c κs = search needs
+judge-route-requires : tie.Need-judge-route-requires Inv-loop μ-loop
+judge-route-requires c κs =
+    let turn = c .before .before .before .before in
+    let start = turn .before .before .before .before .before in
+    let w = end-within _ _ [] (start .args .t7) (start .pre .0) (let good = start .good .1 .1 .1 .1 .1 .1 .0 in search needs) _ (turn .loop-test .taken) (c .before .before .route-end .ensures) in
+    (w .1, start .pre .0, start .pre .3)
 
 enum-told : tie.Need-enum-told Inv-loop μ-loop
 enum-told c = search needs
@@ -44,41 +48,41 @@ enum-known-verdict c = search needs
 returns : tie.Need-returns Inv-loop μ-loop
 returns c =
     let turn = c .before .before .before .before .before .before .before .before in
-    let start = turn .before .before .before .before in
-    sym (turn .before .loop .inv .1 ∙ route-refused _ _ _ (start .args .t6) (start .pre .0) (let good = start .good .1 .1 .1 .1 .1 .0 in search needs) _ (turn .loop-test .taken) (c .before .before .before .before .before .before .route-end .ensures) (c .before .before .before .before .before .touches .ensures) (c .before .before .before .before .if1 .taken) (c .before .before .before .judge-range .ensures) (c .before .verdict .given .1))
+    let start = turn .before .before .before .before .before in
+    sym (turn .before .loop .inv .1 ∙ route-refused _ _ _ (start .args .t7) (start .pre .0) (let good = start .good .1 .1 .1 .1 .1 .1 .0 in search needs) _ (turn .loop-test .taken) (c .before .before .before .before .before .before .route-end .ensures) (c .before .before .before .before .before .touches .ensures) (c .before .before .before .before .if1 .taken) (c .before .before .before .judge-route .ensures) (c .before .verdict .given .1))
 
 loop-less : tie.Need-loop-less Inv-loop μ-loop
 loop-less c =
     let turn = c .before .before .before .before .before .before .before in
-    let start = turn .before .before .before .before in
-    let w = end-within _ _ [] (start .args .t6) (start .pre .0) (let good = start .good .1 .1 .1 .1 .1 .0 in search needs) _ (turn .loop-test .taken) (c .before .before .before .before .before .route-end .ensures) in
+    let start = turn .before .before .before .before .before in
+    let w = end-within _ _ [] (start .args .t7) (start .pre .0) (let good = start .good .1 .1 .1 .1 .1 .1 .0 in search needs) _ (turn .loop-test .taken) (c .before .before .before .before .before .route-end .ensures) in
     omega (arith, w .0, w .1)
 
 loop-again : tie.Need-loop-again Inv-loop μ-loop
 loop-again c =
     let turn = c .before .before .before .before .before .before .before in
-    let start = turn .before .before .before .before in
-    let w = end-within _ _ [] (start .args .t6) (start .pre .0) (let good = start .good .1 .1 .1 .1 .1 .0 in search needs) _ (turn .loop-test .taken) (c .before .before .before .before .before .route-end .ensures) in
-    (w .1, turn .before .loop .inv .1 ∙ route-stands _ _ _ (start .args .t6) (start .pre .0) (let good = start .good .1 .1 .1 .1 .1 .0 in search needs) _ (turn .loop-test .taken) (c .before .before .before .before .before .route-end .ensures) (c .before .before .before .before .touches .ensures) (c .before .before .before .if1 .taken) (c .before .before .judge-range .ensures) (c .enum-told .given .1))
+    let start = turn .before .before .before .before .before in
+    let w = end-within _ _ [] (start .args .t7) (start .pre .0) (let good = start .good .1 .1 .1 .1 .1 .1 .0 in search needs) _ (turn .loop-test .taken) (c .before .before .before .before .before .route-end .ensures) in
+    (w .1, turn .before .loop .inv .1 ∙ route-stands _ _ _ (start .args .t7) (start .pre .0) (let good = start .good .1 .1 .1 .1 .1 .1 .0 in search needs) _ (turn .loop-test .taken) (c .before .before .before .before .before .route-end .ensures) (c .before .before .before .before .touches .ensures) (c .before .before .before .if1 .taken) (c .before .before .judge-route .ensures) (c .enum-told .given .1))
 
 loop-less-2 : tie.Need-loop-less-2 Inv-loop μ-loop
 loop-less-2 c =
     let turn = c .before .before .before .before in
-    let start = turn .before .before .before .before in
-    let w = end-within _ _ [] (start .args .t6) (start .pre .0) (let good = start .good .1 .1 .1 .1 .1 .0 in search needs) _ (turn .loop-test .taken) (c .before .before .route-end .ensures) in
+    let start = turn .before .before .before .before .before in
+    let w = end-within _ _ [] (start .args .t7) (start .pre .0) (let good = start .good .1 .1 .1 .1 .1 .1 .0 in search needs) _ (turn .loop-test .taken) (c .before .before .route-end .ensures) in
     omega (arith, w .0, w .1)
 
 loop-again-2 : tie.Need-loop-again-2 Inv-loop μ-loop
 loop-again-2 c =
     let turn = c .before .before .before .before in
-    let start = turn .before .before .before .before in
-    let w = end-within _ _ [] (start .args .t6) (start .pre .0) (let good = start .good .1 .1 .1 .1 .1 .0 in search needs) _ (turn .loop-test .taken) (c .before .before .route-end .ensures) in
-    (w .1, turn .before .loop .inv .1 ∙ route-untouched _ _ _ (start .args .t6) (start .pre .0) (let good = start .good .1 .1 .1 .1 .1 .0 in search needs) _ (turn .loop-test .taken) (c .before .before .route-end .ensures) (c .before .touches .ensures) (c .if1 .left))
+    let start = turn .before .before .before .before .before in
+    let w = end-within _ _ [] (start .args .t7) (start .pre .0) (let good = start .good .1 .1 .1 .1 .1 .1 .0 in search needs) _ (turn .loop-test .taken) (c .before .before .route-end .ensures) in
+    (w .1, turn .before .loop .inv .1 ∙ route-untouched _ _ _ (start .args .t7) (start .pre .0) (let good = start .good .1 .1 .1 .1 .1 .1 .0 in search needs) _ (turn .loop-test .taken) (c .before .before .route-end .ensures) (c .before .touches .ensures) (c .if1 .left))
 
 returns-2 : tie.Need-returns-2 Inv-loop μ-loop
 returns-2 c =
-    let start = c .before .before .before .before in
-    sym (c .before .loop .inv .1 ∙ routes-end _ _ _ (start .args .t6) (start .pre .0) (let good = start .good .1 .1 .1 .1 .1 .0 in search needs) _ (c .loop-test .left))
+    let start = c .before .before .before .before .before in
+    sym (c .before .loop .inv .1 ∙ routes-end _ _ _ (start .args .t7) (start .pre .0) (let good = start .good .1 .1 .1 .1 .1 .1 .0 in search needs) _ (c .loop-test .left))
 
 pub judge-touched-spec : {M : Type 1} → statement M
 judge-touched-spec =
@@ -91,7 +95,7 @@ judge-touched-spec =
     element-copy-out-source
     route-end-requires
     touches-requires
-    judge-range-requires
+    judge-route-requires
     enum-told
     enum-known-verdict
     returns

@@ -12,7 +12,7 @@ returns : tie.Need-returns
 returns c = when-marked _ _ _ _ (c .before .if1 .taken) (c .correct .ensures)
 
 returns-2 : tie.Need-returns-2
-returns-2 c = when-not _ _ _ _ (c .if1 .left) refl refl (c .before .before .before .pre .0)
+returns-2 c = when-not _ _ _ _ (c .if1 .left) refl refl (c .before .before .before .before .pre .0)
 
 pub correct-if-spec : {M : Type 1} → statement M
 correct-if-spec = tie.close (tie.spec correct-requires returns returns-2)

@@ -11,19 +11,19 @@ use Rattle.applying.proofs.series.run_marked.Statement.{statement}
 use Rattle.applying.proofs.series.run_marked.Tie as tie
 
 abbrev Inv-loop : tie.InvT-loop
-Inv-loop frozen log index marks state total now₀ k₀ n₀ now k n = (now .count ≤ 480) × (k ≤ index .count) × (total ≡ index .corrections) × (ran frozen log (marked marks) 1 (byCorrection 1 (index .corrections) (entriesFrom index 0 (index .count))) (inUse state) ≡ ran frozen log (marked marks) (n + 1) (left index n total k) (inUse now))
+Inv-loop frozen log known index marks state total now₀ k₀ n₀ now k n = (now .count ≤ 480) × (k ≤ index .count) × (total ≡ index .corrections) × (ran frozen log (marked marks) 1 (byCorrection 1 (index .corrections) (entriesFrom index 0 (index .count))) (inUse state) ≡ ran frozen log (marked marks) (n + 1) (left index n total k) (inUse now))
 
 abbrev μ-loop : tie.MeasureT-loop
-μ-loop frozen log index marks state total now₀ k₀ n₀ now k n = total - n
+μ-loop frozen log known index marks state total now₀ k₀ n₀ now k n = total - n
 
 loop-holds : tie.Need-loop-holds Inv-loop μ-loop
-loop-holds c = let pre = c .before .before .before .pre in (pre .0, omega arith, refl, run-starts _ _ _ _ _ _)
+loop-holds c = let pre = c .before .before .before .before .pre in (pre .0, omega arith, refl, run-starts _ _ _ _ _ _)
 
 add-lines-end : tie.Need-add-lines-end Inv-loop μ-loop
 add-lines-end c = search needs
 
 lines-end-requires : tie.Need-lines-end-requires Inv-loop μ-loop
-lines-end-requires c κs = (c .before .before .before .before .before .pre .1, c .before .loop .inv .1)
+lines-end-requires c κs = (c .before .before .before .before .before .before .pre .1, c .before .loop .inv .1)
 
 add-is-marked : tie.Need-add-is-marked Inv-loop μ-loop
 add-is-marked c = search needs
@@ -36,8 +36,8 @@ add-correct-if c = search needs
 
 correct-if-requires : tie.Need-correct-if-requires Inv-loop μ-loop
 correct-if-requires c κs =
-    let pre = c .before .before .before .before .before .before .before .pre in
-    (c .before .before .before .loop .inv .0, omega (arith, pre .1, c .before .lines-end .ensures .1), pre .2)
+    let pre = c .before .before .before .before .before .before .before .before .pre in
+    (c .before .before .before .loop .inv .0, omega (arith, pre .1, c .before .lines-end .ensures .1), pre .2, pre .3)
 
 enum-told : tie.Need-enum-told Inv-loop μ-loop
 enum-told c = search needs

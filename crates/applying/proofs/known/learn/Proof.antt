@@ -1,0 +1,68 @@
+-- A record that is legal is known from here on. Assumes nothing.
+use mathlib.Core.Path.{sym, _∙_}
+use Rattle.leg.proofs.Legality.{accepted-iff}
+use Rattle.applying.proofs.KnownLaws.{known-more}
+use borrow.Author.Needs.{needs}
+use Rattle.applying.proofs.known.learn.Statement.{statement}
+use Rattle.applying.proofs.known.learn.Tie as tie
+
+slot-requires : tie.Need-slot-requires
+slot-requires c κs = search needs
+
+returns : tie.Need-returns
+returns c = search needs
+
+returns-2 : tie.Need-returns-2
+returns-2 c = search needs
+
+record-at-requires : tie.Need-record-at-requires
+record-at-requires c κs = search needs
+
+judge-requires : tie.Need-judge-requires
+judge-requires c κs = search needs
+
+enum-told : tie.Need-enum-told
+enum-told c = search needs
+
+add-known : tie.Need-add-known
+add-known c = search needs
+
+mul-known : tie.Need-mul-known
+mul-known c = search needs
+
+slice-write-known : tie.Need-slice-write-known
+slice-write-known c = search needs
+
+enum-told-2 : tie.Need-enum-told-2
+enum-told-2 c = search needs
+
+same-length : tie.Need-same-length
+same-length c = search needs
+
+returns-3 : tie.Need-returns-3
+returns-3 c =
+    let met = c .before .before .before in
+    let found = met .before .before .before in
+    known-more _ _ (found .before .before .before .before .pre) _ (found .slot .ensures) (met .before .if2 .left)
+    (accepted-iff _ 1 .0 (rw (← met .record-at .ensures) (sym (c .before .before .judge .ensures) ∙ c .enum-told .given .1)))
+
+returns-4 : tie.Need-returns-4
+returns-4 c = search needs
+
+pub learn-spec : {M : Type 1} → statement M
+learn-spec =
+    tie.close
+    (tie.spec
+    slot-requires
+    returns
+    returns-2
+    record-at-requires
+    judge-requires
+    enum-told
+    add-known
+    mul-known
+    slice-write-known
+    enum-told-2
+    same-length
+    returns-3
+    returns-4)

@@ -1,0 +1,23 @@
+-- A law for each slice. Assumes nothing.
+use Rattle.applying.proofs.KnownLaws.{slot-of-frozen, slot-of-log}
+use borrow.Author.Needs.{needs}
+use Rattle.applying.proofs.known.slot.Statement.{statement}
+use Rattle.applying.proofs.known.slot.Tie as tie
+
+cast-result : tie.Need-cast-result
+cast-result c = search needs
+
+returns : tie.Need-returns
+returns c = slot-of-frozen _ (c .if1 .taken)
+
+cast-result-2 : tie.Need-cast-result-2
+cast-result-2 c = search needs
+
+add-result : tie.Need-add-result
+add-result c = search needs
+
+returns-2 : tie.Need-returns-2
+returns-2 c = slot-of-log _ (c .if1 .left)
+
+pub slot-spec : {M : Type 1} → statement M
+slot-spec = tie.close (tie.spec cast-result returns cast-result-2 add-result returns-2)
