@@ -1,7 +1,7 @@
 -- Laws of lines applied one after the other, as the loop that applies them asks for them.
 -- Assumes nothing.
 use mathlib.Core.Path.{_≡_, refl, sym, ap, subst, _∙_}
-use mathlib.Core.Bool.{Bool, true, false, not, false≢true}
+use mathlib.Core.Bool.{true, false, false≢true}
 use mathlib.Core.List.{List}
 use mathlib.Core.Option.{Option, some, none, bind}
 use Prim.Native.Nat.{ℕ, _+_, _-_, _≤_, _<_}
@@ -29,14 +29,6 @@ module _ (f l : List ℕ) (letter at n : ℕ) (xs : List ℕ) (c : Change) where
   line-in h g = rw (ne-eqb letter (code "D") h) g
 
 -- ---- what a change gave
-
-pub not-done : (b : Bool) → not b ≡ true → b ≡ false
-not-done true e = sym e
-not-done false e = refl
-
-pub is-done : (b : Bool) → not b ≡ false → b ≡ true
-is-done true e = refl
-is-done false e = sym e
 
 pub gave-none : (c : Change) (o : Option (List ℕ)) → Gives c o → c .done ≡ false → o ≡ none
 gave-none c _ (made t n e) d = absurd (false≢true (sym d ∙ t))

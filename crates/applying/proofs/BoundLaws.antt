@@ -15,11 +15,11 @@ use Rattle.refusals.specs.Table.{tooManyRecords, logTooLong}
 use Rattle.refusals.specs.declared.Refusal.{Refusal}
 use Rattle.refusals.specs.declared.Verdict.{Verdict}
 use Rattle.refusals.specs.declared.Verdict.the-variants.{Accepted, Refused}
+use Rattle.refusals.proofs.VerdictLaws.{never}
 use Rattle.corrections.specs.declared.Index.{Index}
 use Rattle.routes.specs.InTurn.{inTurn}
 use Rattle.routes.specs.Sources.{inUse}
 use Rattle.routes.specs.declared.Sources.{Sources}
-use Rattle.routes.proofs.InTurnLaws.{never}
 use Rattle.history.specs.Sets.{Numbers}
 use Rattle.applying.specs.Apply.{Within, entriesFrom}
 use Rattle.applying.specs.Correct.{Outcome, stopped, Comes}

@@ -13,10 +13,10 @@ use lib.ListN.{length, length-map}
 use Rattle.slices.proofs.Cases.{split}
 use Rattle.refusals.specs.declared.Verdict.{Verdict}
 use Rattle.refusals.specs.declared.Verdict.the-variants.{Accepted, Refused}
+use Rattle.refusals.proofs.VerdictLaws.{never}
 use Rattle.corrections.specs.Reading.{Entry}
 use Rattle.routes.specs.Legal.{Wide}
 use Rattle.routes.specs.Sources.{recordAt}
-use Rattle.routes.proofs.InTurnLaws.{never}
 use Rattle.history.specs.Format as H
 use Rattle.history.specs.Apply.{Op, Correction, apply, applyAll, touchedAccepted, correct, run}
 use Rattle.history.specs.Sets.{Numbers, chooseFrom}

@@ -1,15 +1,16 @@
 -- Laws of the table of known records: what it says of a source, and what stays so as it grows.
 -- Assumes nothing.
-use mathlib.Core.Path.{_≡_, refl, sym, ap, subst, _∙_}
+use mathlib.Core.Path.{_≡_, sym, ap, subst, _∙_}
 use mathlib.Core.Bool.{Bool, true, false}
 use mathlib.Core.List.{List}
-use Prim.Native.Nat.{ℕ, zero, suc, _+_, _-_, _/_, _≤_, _<_}
+use Prim.Native.Nat.{ℕ, _+_, _-_, _/_, _≤_, _<_}
 use native.Mathlib.Omega.{arith}
 use borrow.Author.Tests.{lt-ltb, le-ltb, eqb-true, eqb-false, ne-eqb}
 use lib.Dec.{eqb}
 use lib.ListN.{length, getD, set, replicate, List·getD-eq-default}
 use lib.Seq.{getD-set-same, getD-set-other}
 use Rattle.slices.proofs.Cases.{split}
+use Rattle.slices.proofs.PartLaws.{zero-at}
 use Rattle.refusals.specs.declared.Verdict.{Verdict}
 use Rattle.refusals.specs.declared.Verdict.the-variants.{Accepted}
 use Rattle.leg.specs.Judge.{judged}
@@ -42,12 +43,6 @@ knows-none known source e h =
 pub knows-held : (known : List ℕ) (source : ℕ) {i : ℕ} → i ≡ slot source → eqb (getD known i 0) (source + 1) ≡ knows known source
 unfolding knows
 knows-held known source e = rw e
-
--- among zeros, and past them, there is 0
-pub zero-at : (n i : ℕ) → _≡_ {A = ℕ} (getD (replicate n 0) i 0) 0
-zero-at zero i = refl
-zero-at (suc n) zero = refl
-zero-at (suc n) (suc i) = zero-at n i
 
 -- ---- how it grows
 

@@ -2,7 +2,7 @@
 mod ShiftLaws
 mod StateLaws
 pub mod ApplyLaws
-pub mod KnownLaws
+mod KnownLaws
 mod JudgeLaws
 mod CorrectLaws
 pub mod RunLaws

@@ -1,7 +1,7 @@
 -- A list of records is an accepted file of the theory of selection, for the format of this product, exactly when it is judged so.
 -- Assumes nothing.
 use mathlib.Core.Path.{_≡_, refl, sym, ap, _∙_}
-use mathlib.Core.Bool.{true, false, cond, false≢true}
+use mathlib.Core.Bool.{true, cond, false≢true}
 use mathlib.Core.List.{List, [], _∷_, map}
 use mathlib.Core.Logic.{_↔_, ite}
 use Prim.Native.Nat.{ℕ}

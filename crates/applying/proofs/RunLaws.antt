@@ -12,7 +12,7 @@ use borrow.Author.Tests.{eq-eqb, ne-eqb}
 use Rattle.slices.proofs.PartLaws.{one-less}
 use Rattle.refusals.specs.declared.Refusal.{Refusal}
 use Rattle.refusals.specs.declared.Verdict.the-variants.{Accepted, Refused}
-use Rattle.routes.proofs.InTurnLaws.{never}
+use Rattle.refusals.proofs.VerdictLaws.{never, same-refusal}
 use Rattle.corrections.specs.Reading.{Entry}
 use Rattle.corrections.specs.declared.Index.{Index}
 use Rattle.routes.specs.Sources.{inUse}
@@ -74,9 +74,6 @@ module _ (index : Index) (n k to : ℕ) where
         omega arith
 
 -- ---- one turn
-
-pub same-refusal : {r s : Refusal} → Refused r ≡ Refused s → r ≡ s
-same-refusal h = cc
 
 pub came-refused : (c : Corrected) (o : Outcome) → Comes c o → {r : Refusal} → c .verdict ≡ Refused r → (o ≡ stopped r)
 came-refused c _ (refused e) q = ap stopped (same-refusal (sym e ∙ q))

@@ -1,10 +1,11 @@
 -- Corrections over any index and any sources: what no log and no file has is refused, and nothing is left open past the counts.
 -- Assumes nothing.
-use Prim.Native.Nat.{ℕ, _-_}
+use Prim.Native.Nat.{ℕ}
 use mathlib.Core.Bool.{Bool, true, cond, _&&_}
-use mathlib.Core.List.{List, [], _∷_, _++_}
+use mathlib.Core.List.{List, [], _∷_}
 use lib.Dec.{leb}
-use lib.ListN.{length, replicate}
+use lib.ListN.{length}
+use Rattle.slices.specs.Part.{padded}
 use Rattle.refusals.specs.Table.{tooManyRecords, logTooLong}
 use Rattle.refusals.specs.declared.Verdict.{Verdict}
 use Rattle.refusals.specs.declared.Verdict.the-variants.{Accepted, Refused}
@@ -42,10 +43,6 @@ ranOver frozen log T index state =
     (ran frozen log T 1 (byCorrection 1 (index .corrections) (entriesFrom index 0 (index .count))) (inUse state))
 
 -- ---- as the code gives it
-
--- some numbers, and zeros past them
-abbrev pub padded : ℕ → List ℕ → List ℕ
-padded n xs = xs ++ replicate (n - length xs) 0
 
 unfoldable pub sourcesFor : List ℕ → Sources
 sourcesFor xs = record { count = length xs; at = padded 480 xs }

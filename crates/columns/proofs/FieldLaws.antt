@@ -11,8 +11,10 @@ use native.Mathlib.Decide.{decLt}
 use lib.ListN.{length, replicate, length-append, length-replicate}
 use borrow.Author.Tests.{lt-ltb}
 use Rattle.slices.proofs.Cases.{both}
+use Rattle.slices.proofs.PartLaws.{no-bytes}
 use Rattle.columns.specs.Patterns.{digits, textFrom, text, below, upToCodes, notAllZero, codes}
-use Rattle.columns.specs.Words.{Each, All, Or, Then, TextByte, Text, Digit, Digits, AtMost, Between, value}
+use Rattle.columns.specs.Words.{Each, All, Or, Then, TextByte, Text, Digit, Digits, AtMost, Between}
+use Rattle.digits.specs.Digits.{value}
 use Rattle.columns.proofs.PatternLaws.{Says, reworded, says-or, says-then, says-all, says-none, says-text, says-blanks, each-blank, blank-each}
 use Rattle.columns.proofs.LetterLaws.{textByte, digit, digitNotZero}
 
@@ -25,17 +27,13 @@ says-digits n = says-all 100 Digit digit n
 abbrev TextOf : ℕ → ℕ → List ℕ → Type 0
 TextOf k n f = (length f ≡ k + n) × Then (λ g. (k ≤ length g) × Each TextByte g) (Each (λ b. b ≡ 32)) f
 
-empty : (h : List ℕ) → length h ≡ 0 → h ≡ []
-empty [] e = refl
-empty (b ∷ h) e = absurd (omega arith)
-
 all-text : (k : ℕ) (f : List ℕ) → All k TextByte f ↔ TextOf k 0 f
 all-text k f = (
   λ h. (omega (arith, h .0), (f, [], sym (append-nil f), (omega (arith, h .0), h .1), tt)),
   λ h.
       let r = h .1 in
       let e : length f ≡ length (r .0) + length (r .1) = ap length (r .2) ∙ length-append (r .0) (r .1) in
-      let z : r .1 ≡ [] = empty (r .1) (omega (arith, h .0, r .3 .0)) in
+      let z : r .1 ≡ [] = no-bytes (r .1) (omega (arith, h .0, r .3 .0)) in
       let s : f ≡ r .0 = r .2 ∙ ap (λ (t : List ℕ). r .0 ++ t) z ∙ append-nil (r .0) in
       (omega (arith, h .0), subst (Each TextByte) (sym s) (r .3 .1)),
 )
@@ -159,7 +157,7 @@ module _ (d : ℕ) (ds : List ℕ) (hd : Digit d) (hs : Each Digit ds) where
 
 pub says-up-to : (ds : List ℕ) → Each Digit ds → Says (upToCodes ds) (AtMost (length ds) (value ds))
 unfolding upToCodes value
-says-up-to [] h = reworded (says-text [] refl) (λ f. (λ e. rw e ((refl, tt), omega arith), λ r. empty f (r .0 .0)))
+says-up-to [] h = reworded (says-text [] refl) (λ f. (λ e. rw e ((refl, tt), omega arith), λ r. no-bytes f (r .0 .0)))
 says-up-to (d ∷ ds) h =
     reworded
     (says-or (says-then (says-below (d - 48) (omega (arith, h .0))) (says-digits (length ds))) (says-then (single d (omega (arith, h .0))) (says-up-to ds (h .1))))

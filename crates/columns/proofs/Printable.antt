@@ -1,7 +1,7 @@
 -- Every byte of a legal record is one from 32 to 126.
 -- Assumes nothing.
-use mathlib.Core.Path.{_≡_, refl, sym, ap, _∙_}
-use mathlib.Core.Bool.{Bool, true, false, _&&_, false≢true}
+use mathlib.Core.Path.{_≡_, refl, ap, _∙_}
+use mathlib.Core.Bool.{Bool, true, _&&_, false≢true}
 use mathlib.Core.Logic.{⊎-elim}
 use mathlib.Core.List.{List, [], _∷_, List·Memᴰ, List·Memᴰ·head, List·Memᴰ·tail}
 use Prim.Native.Nat.{ℕ, zero, suc, _+_, _-_, _≤_, _<_}
@@ -10,18 +10,17 @@ use native.Mathlib.Nat.{le-of-suc-le-suc, not-suc-le-zero}
 use lib.Dec.{eqb, leb}
 use lib.ListN.{length, getD}
 use borrow.Author.Tests.{eqb-true, leb-true}
-use Rattle.slices.specs.Part.{part}
 use Rattle.slices.proofs.Cases.{split, and-left, and-right, either}
 use Rattle.slices.proofs.PartLaws.{length-part, getD-part}
 use Rattle.columns.specs.ByteSets.{Range, ByteSet, byteSets, within, inRanges, fitsOf, fits}
 use Rattle.columns.specs.Patterns.{fitsAll}
-use Rattle.columns.specs.Rows.{Alternative, Row, alternativeOk, stands, fieldAt, rowOk, EveryRow, Tiles}
+use Rattle.columns.specs.Rows.{Alternative, Row, stands, fieldAt, rowOk, EveryRow, Tiles}
 use Rattle.columns.specs.Layout.{primary, continuation}
 use Rattle.columns.specs.Kinds.{kindOf, layoutOf, firstBadField}
 use Rattle.columns.specs.Words.{Printable, Each}
 use Rattle.columns.specs.declared.Kind.{Kind}
 use Rattle.columns.specs.declared.Kind.the-variants.{Primary, Continuation}
-use Rattle.columns.proofs.RowLaws.{Covers, matched, zero-iff, tiles-counted, no-gap}
+use Rattle.columns.proofs.RowLaws.{matched, zero-iff, tiles-counted, no-gap}
 use Rattle.columns.proofs.Tiled.{primary-tiles, continuation-tiles}
 
 printable-within : (lo hi b : ℕ) → 32 ≤ lo → hi ≤ 126 → within lo hi b ≡ true → Printable b

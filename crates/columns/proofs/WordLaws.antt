@@ -12,7 +12,8 @@ use mathlib.Core.Bool.{true}
 use Rattle.columns.specs.Patterns.{codes, each, one, all, _then_, digits, upTo}
 use Rattle.columns.specs.Layout.{icao, letterDigitBlank as letterDigitBlankPatterns, altitude as altitudePatterns, course as coursePatterns, cycle as cyclePatterns}
 use Rattle.columns.specs.Rows.{when, always, guarded, rowOk, fieldAt}
-use Rattle.columns.specs.Words.{All, Or, Then, Is, Code, Capital, LetterDigitBlank, LetterOrDigit, TextByte, TextOrBlank, Digits, AtMost, Between, value, Icao, Procedure, Altitude, Tenths, Course, Cycle, RouteType, Distance}
+use Rattle.columns.specs.Words.{All, Or, Then, Is, Code, Capital, LetterDigitBlank, LetterOrDigit, TextByte, TextOrBlank, Digits, AtMost, Between, Icao, Procedure, Altitude, Tenths, Course, Cycle, RouteType, Distance}
+use Rattle.digits.specs.Digits.{value}
 use Rattle.columns.proofs.PatternLaws.{Says, reworded, says-or, says-then, says-all, says-text, says-among, or-blank, plains, plain}
 use Rattle.columns.proofs.LetterLaws.{capital, letterDigitBlank, letterOrDigit, textByte, textOrBlank}
 use Rattle.columns.proofs.FieldLaws.{says-digits, says-up-to, says-from-one}

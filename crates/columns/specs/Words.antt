@@ -1,6 +1,6 @@
 -- What paper 01 says of a field, in words that name no pattern and no test: of its bytes f, or of the record rec that it stands in.
 -- Assumes nothing.
-use Prim.Native.Nat.{ℕ, _+_, _-_, _*_, _^_, _≤_}
+use Prim.Native.Nat.{ℕ, _+_, _-_, _≤_}
 use Prim.Native.Char.{code}
 use Prim.Native.String.{String}
 use mathlib.Core.Path.{_≡_}
@@ -8,6 +8,7 @@ use mathlib.Core.Logic.{_⊎_}
 use mathlib.Core.List.{List, [], _∷_, _++_, List·Memᴰ}
 use lib.ListN.{length, replicate}
 use Rattle.slices.specs.Part.{part}
+use Rattle.digits.specs.Digits.{value}
 use Rattle.columns.specs.Patterns.{codes, each, texts}
 use Rattle.columns.specs.Rows.{byteIn}
 use Rattle.columns.specs.Terminators.{terminators}
@@ -78,11 +79,6 @@ Code s f = List·Memᴰ f (each s)
 -- one or more of A-Z, 0-9 and minus from the left, then blanks
 abbrev pub Text : ℕ → List ℕ → Type 0
 Text n f = (length f ≡ n) × Then (λ g. (1 ≤ length g) × Each TextByte g) (Each (λ b. b ≡ 32)) f
-
--- the decimal value of a run of digits
-unfoldable pub value : List ℕ → ℕ
-value [] = 0
-value (b ∷ bs) = (b - 48) * 10 ^ length bs + value bs
 
 abbrev pub Digits : ℕ → List ℕ → Type 0
 Digits n = All n Digit

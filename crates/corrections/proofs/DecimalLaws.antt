@@ -1,7 +1,7 @@
 -- What `decimal` writes: digits whose value is the number, with no zero in front.
 -- Assumes nothing.
 use mathlib.Core.Path.{_≡_, sym, _∙_}
-use mathlib.Core.List.{List, [], _∷_}
+use mathlib.Core.List.{[], _∷_}
 use Prim.Native.Nat.{ℕ, zero, suc, _+_, _-_, _*_, _/_, _%_, _≤_, _<_}
 use native.Mathlib.Omega.{arith}
 use native.Mathlib.Nat.{mod-lt, mod-eq-of-lt}
@@ -9,13 +9,9 @@ use native.Mathlib.Decide.{decLt}
 use lib.Arith.{mod-mul}
 use lib.Dec.{lit<}
 use lib.ListN.{getD}
+use Rattle.digits.specs.Digits.{value}
 use Rattle.corrections.specs.Lines.{decimal}
 use Rattle.corrections.proofs.ReachLaws.{decimal-ones, decimal-tens, decimal-hundreds}
-
--- the number that digits write
-abbrev pub valueFrom : ℕ → List ℕ → ℕ
-valueFrom before [] = before
-valueFrom before (d ∷ ds) = valueFrom (before * 10 + (d - 48)) ds
 
 -- a number by its digits
 module _ (n : ℕ) where
@@ -29,13 +25,16 @@ module _ (n : ℕ) where
   last-two = mod-mul n {m = 10} {c = 10} (lit< tt) (lit< tt)
 
 -- digits that make a number
-one-value : (n c : ℕ) → n ≡ c → 0 * 10 + (c + 48 - 48) ≡ n
+one-value : (n c : ℕ) → n ≡ c → value ((c + 48) ∷ []) ≡ n
+unfolding value
 one-value n c e = omega arith
 
-two-value : (n b c : ℕ) → n ≡ b * 10 + c → (0 * 10 + (b + 48 - 48)) * 10 + (c + 48 - 48) ≡ n
+two-value : (n b c : ℕ) → n ≡ b * 10 + c → value ((b + 48) ∷ (c + 48) ∷ []) ≡ n
+unfolding value
 two-value n b c e = omega arith
 
-three-value : (n a b c m : ℕ) → n ≡ a * 100 + m → m ≡ b * 10 + c → ((0 * 10 + (a + 48 - 48)) * 10 + (b + 48 - 48)) * 10 + (c + 48 - 48) ≡ n
+three-value : (n a b c m : ℕ) → n ≡ a * 100 + m → m ≡ b * 10 + c → value ((a + 48) ∷ (b + 48) ∷ (c + 48) ∷ []) ≡ n
+unfolding value
 three-value n a b c m e q = omega arith
 
 -- the first of them is no 0
@@ -43,10 +42,10 @@ leads : (n a m p : ℕ) → n ≡ a * p + m → m < p → p ≤ n → 49 ≤ a +
 leads n zero m p e l g = let z : 0 * p ≡ 0 = omega arith in absurd (omega (arith, z))
 leads n (suc a) m p e l g = omega arith
 
-pub decimal-value : (n : ℕ) → n < 1000 → valueFrom 0 (decimal n) ≡ n
+pub decimal-value : (n : ℕ) → n < 1000 → value (decimal n) ≡ n
 decimal-value n h = by (decLt n 10) (decLt n 100)
   where
-    by : Dec (n < 10) → Dec (n < 100) → valueFrom 0 (decimal n) ≡ n
+    by : Dec (n < 10) → Dec (n < 100) → value (decimal n) ≡ n
     by (yes p) q = rw (decimal-ones n p) (one-value n (n % 10) (sym (mod-eq-of-lt p)))
     by (no p) (yes q) = rw (decimal-tens n (omega arith) q) (two-value n (n / 10 % 10) (n % 10) (by-tens n q))
     by (no p) (no q) =

@@ -1,6 +1,6 @@
 -- The line that stands in front of what is left of a log, and what a reading with a line in front says of the rest.
 -- Assumes nothing.
-use mathlib.Core.Path.{_≡_, refl, sym, ap, _∙_}
+use mathlib.Core.Path.{_≡_, sym, ap, _∙_}
 use mathlib.Core.Bool.{true}
 use mathlib.Core.List.{List, [], _∷_, _++_}
 use Prim.Native.Nat.{ℕ, suc, _+_, _-_, _≤_}
@@ -65,10 +65,6 @@ said-rest es (said m gs) n fs e = (gs, rw (same-number e))
 pub refused-rest : (es : List Entry) (rest : Reading) (r : Refusal) → withEntries es rest ≡ refused r → rest ≡ refused r
 refused-rest es (refused s) r e = e
 refused-rest es (said m gs) r e = absurd (not-said (sym e))
-
-pub no-bytes : (bs : List ℕ) → length bs ≡ 0 → bs ≡ []
-no-bytes [] e = refl
-no-bytes (b ∷ bs) e = absurd (omega arith)
 
 -- what is left after a line is shorter
 pub shorter : (bs : List ℕ) (w most : ℕ) → 1 ≤ w → length bs ≤ suc most → length (drop w bs) ≤ most

@@ -6,15 +6,15 @@ use mathlib.Core.Logic.{_↔_}
 use Prim.Native.Nat.{ℕ, _-_, _≤_}
 use lib.ListN.{length}
 use Rattle.refusals.specs.declared.Verdict.the-variants.{Accepted}
+use Rattle.refusals.proofs.VerdictLaws.{never}
 use Rattle.corrections.specs.Reading.{Entry, Reading, refused, said, readLog, indexOf}
 use Rattle.corrections.specs.Text.{logText, LegalLog}
-use Rattle.corrections.proofs.Turns.{not-accepted}
 use Rattle.corrections.proofs.Spelling.{said-legal}
 use Rattle.corrections.proofs.TextLaws.{text-read}
 
 pub verdict-said : (rest : Reading) → indexOf rest .verdict ≡ Accepted → (n : ℕ) × (es : List Entry) × (rest ≡ said n es)
 unfolding indexOf
-verdict-said (refused r) e = absurd (not-accepted e)
+verdict-said (refused r) e = absurd (never e)
 verdict-said (said n es) e = (n, es, refl)
 
 said-verdict : {rest : Reading} {n : ℕ} {es : List Entry} → rest ≡ said n es → indexOf rest .verdict ≡ Accepted

@@ -9,6 +9,7 @@ use lib.Dec.{eqb, ltb}
 use lib.ListN.{length, drop}
 use borrow.Author.Tests.{eqb-true, eqb-false, ltb-true, ltb-false}
 use Rattle.slices.proofs.Cases.{split}
+use Rattle.slices.proofs.PartLaws.{no-bytes}
 use Rattle.corrections.specs.declared.lines.Line.{Line}
 use Rattle.corrections.specs.declared.lines.Line.the-variants.{Heading, TakenOut, PutIn}
 use Rattle.corrections.specs.Lines.{heading, whole, lineOf}
@@ -16,7 +17,7 @@ use Rattle.corrections.specs.Reading.{Entry, entry, said, lineVerdict, b
 use Rattle.corrections.specs.Text.{Change, takeOut, putIn, changeText, headingText, Sound, changesText, logText, EverySound, AllSound, isPut, puts, allPuts, LegalLog}
 use Rattle.corrections.proofs.ReachLaws.{heading-short}
 use Rattle.corrections.proofs.Turns.{Found, headed, taken, put, stopped, found}
-use Rattle.corrections.proofs.FrontLaws.{heading-front, change-front, not-said, same-number, said-rest, no-bytes, shorter}
+use Rattle.corrections.proofs.FrontLaws.{heading-front, change-front, not-said, same-number, said-rest, shorter}
 
 -- what is left of a log is the rest of a correction and then others
 record Spelled (begun left : ℕ) (bs : List ℕ) (n : ℕ) : Type 0 where

@@ -5,7 +5,7 @@ use mathlib.Core.Bool.{false}
 use mathlib.Core.List.{List, [], _∷_, _++_, map, append-assoc}
 use Prim.Native.Nat.{ℕ, suc, _+_, _-_, _*_, _≤_, _<_}
 use native.Mathlib.Omega.{arith}
-use lib.Dec.{eqb, eqb·zero-suc}
+use lib.Dec.{eqb·zero-suc}
 use lib.ListN.{length, drop, length-append}
 use lib.Seq.{drop-at}
 use borrow.Author.Tests.{ne-eqb, lt-ltb, le-ltb}

@@ -1,6 +1,6 @@
 -- One turn of the loop over the lines of a log: what its line says of the offsets and counts, and the reading before and after it.
 -- Assumes nothing.
-use mathlib.Core.Path.{_≡_, refl, sym, ap, _∙_}
+use mathlib.Core.Path.{_≡_, refl, sym, _∙_}
 use mathlib.Core.Bool.{true, false}
 use mathlib.Core.List.{List, []}
 use Prim.Native.Nat.{ℕ, zero, suc, _+_, _-_, _*_, _≤_, _<_}
@@ -15,6 +15,7 @@ use Rattle.refusals.specs.Table.{logTooLong}
 use Rattle.refusals.specs.declared.Refusal.{Refusal}
 use Rattle.refusals.specs.declared.Verdict.{Verdict}
 use Rattle.refusals.specs.declared.Verdict.the-variants.{Accepted, Refused}
+use Rattle.refusals.proofs.VerdictLaws.{never}
 use Rattle.corrections.specs.declared.lines.Line.{Line}
 use Rattle.corrections.specs.declared.lines.Line.the-variants.{Heading, TakenOut, PutIn, Stopped}
 use Rattle.corrections.specs.declared.Index.{Index}
@@ -47,14 +48,6 @@ found begun bs =
 
 -- ---- what an accepted line says of its width
 
-refuses : Verdict → ℕ
-refuses Accepted = 0
-refuses (Refused r) = 1
-
-pub not-accepted : {r : Refusal} → Refused r ≡ Accepted → ⊥
-unfolding refuses
-not-accepted e = let z : _≡_ {A = ℕ} 1 0 = ap refuses e in omega arith
-
 whole-within : (f : Form) (bs : List ℕ) → whole f bs ≡ true → length f ≤ length bs
 unfolding whole
 whole-within f bs e = let q : reach f bs ≡ length f = eqb-true (reach f bs) (length f) e in omega (arith, reach-length f bs)
@@ -72,7 +65,7 @@ advances-by number begun room at bs Heading (headed h) v = record {
   forward = heading-short (begun + 1) .0;
   short = omega (arith, heading-short (begun + 1) .1);
   few = omega arith;
-  hundreds = λ _. split (ltb begun 200) (λ e. omega (arith, ltb-true begun 200 e)) (λ e. absurd (not-accepted (rw e at v)));
+  hundreds = λ _. split (ltb begun 200) (λ e. omega (arith, ltb-true begun 200 e)) (λ e. absurd (never (rw e at v)));
 }
 advances-by number begun room at bs TakenOut (taken b h) v = record {
   within = omega (arith, whole-within (change 68) bs h, change-width 68);
@@ -88,7 +81,7 @@ advances-by number begun room at bs PutIn (put b h) v = record {
   few = omega arith;
   hundreds = λ u. u;
 }
-advances-by number begun room at bs _ (stopped h g) v = absurd (not-accepted v)
+advances-by number begun room at bs _ (stopped h g) v = absurd (never v)
 
 pub advances : (number begun room at : ℕ) (log : List ℕ) {l : Line} {v : Verdict} → l ≡ lineAt begun at log → v ≡ lineVerdict number begun room l → v ≡ Accepted
     → Advances begun at (drop at log) l

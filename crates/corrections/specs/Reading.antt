@@ -4,8 +4,9 @@ use Prim.Native.Nat.{ℕ, zero, suc, _+_, _-_}
 use mathlib.Core.Bool.{cond}
 use mathlib.Core.List.{List, [], _∷_, _++_, map}
 use lib.Dec.{eqb, ltb}
-use lib.ListN.{length, drop, replicate}
+use lib.ListN.{length, drop}
 use lib.Seq.{sets}
+use Rattle.slices.specs.Part.{padded}
 use Rattle.refusals.specs.Table.{logLine, logTooLong, tooManyCorrections, noRoom}
 use Rattle.refusals.specs.declared.Refusal.{Refusal}
 use Rattle.refusals.specs.declared.Verdict.{Verdict}
@@ -90,20 +91,17 @@ readLog log frozen = cond (ltb 60000 (length log)) (refused logTooLong) (read (l
 
 -- ---- the index
 
-abbrev pub padded : List ℕ → List ℕ
-padded xs = xs ++ replicate (444 - length xs) 0
-
 -- zeros past the lines; nothing but zeros on a refusal
 unfoldable pub indexOf : Reading → Index
 indexOf (refused r) =
-    record { verdict = Refused r; corrections = 0; count = 0; kind = padded []; at = padded []; correction = padded [] }
+    record { verdict = Refused r; corrections = 0; count = 0; kind = padded 444 []; at = padded 444 []; correction = padded 444 [] }
 indexOf (said n es) = record {
   verdict = Accepted;
   corrections = n;
   count = length es;
-  kind = padded (map (λ (e : Entry). e .letter) es);
-  at = padded (map (λ (e : Entry). e .at) es);
-  correction = padded (map (λ (e : Entry). e .correction) es);
+  kind = padded 444 (map (λ (e : Entry). e .letter) es);
+  at = padded 444 (map (λ (e : Entry). e .at) es);
+  correction = padded 444 (map (λ (e : Entry). e .correction) es);
 }
 
 -- an index with more lines behind those that it has

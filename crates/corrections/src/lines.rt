@@ -5,17 +5,7 @@ ghost use mathlib.Core.Bool.{cond};
 ghost use mathlib.Core.List.{_∷_, _++_, map};
 ghost use Prim.Native.Nat.{suc, _+_, _/_, _%_, _<_, _≤_, max};
 ghost use lib.ListN.{length, replicate};
-ghost use Rattle.corrections.specs.Lines.{
-  Span,
-  exactly,
-  printable,
-  ended,
-  decimal,
-  heading,
-  change,
-  reachAt,
-  lineAt,
-};
+ghost use Rattle.corrections.specs.Lines.{exactly, printable, ended, decimal, heading, change, reachAt, lineAt};
 use slices::byte_at;
 
 pub enum Line {

@@ -1,22 +1,17 @@
 -- Laws of digits, at every width: a number's digits have its value, and digits are those of their value.
 -- Assumes nothing.
-use mathlib.Core.Path.{_≡_, refl, sym, ap, ap₂, _∙_}
+use mathlib.Core.Path.{_≡_, refl, ap, _∙_}
 use mathlib.Core.List.{List, [], _∷_}
-use Prim.Native.Nat.{ℕ, zero, suc, _+_, _-_, _*_, _^_, _/_, _%_, _≤_, _<_}
+use Prim.Native.Nat.{ℕ, zero, suc, _+_, _-_, _*_, _^_, _/_, _%_, _<_}
 use native.Mathlib.Omega.{arith}
 use native.Mathlib.Nat.{pow-suc, div-add-mod', mod-lt, div-lt-iff-lt-mul, mul-comm}
 use lib.Arith.{digits-div, digits-mod}
 use lib.ListN.{length}
-use Rattle.columns.specs.Words.{Each, Digit, value}
+use Rattle.digits.proofs.Powers.{power-positive}
+use Rattle.columns.specs.Words.{Each, Digit}
+use Rattle.digits.specs.Digits.{value}
 use Rattle.columns.proofs.FieldLaws.{value-below}
 use Rattle.fields.specs.Numbers.{digitsOf}
-
-pub power-positive : (n : ℕ) → 0 < 10 ^ n
-power-positive zero = omega arith
-power-positive (suc n) =
-    let i : 0 < 10 ^ n = power-positive n in
-    let e : 10 ^ suc n ≡ 10 ^ n * 10 = pow-suc 10 n in
-    omega arith
 
 pub digits-length : (n v : ℕ) → length (digitsOf n v) ≡ n
 unfolding digitsOf

@@ -2,10 +2,10 @@
 -- each of them is the one that they make.
 -- Assumes nothing.
 use mathlib.Core.Path.{_≡_, refl, sym, ap, subst, _∙_}
-use mathlib.Core.List.{List, [], _∷_, _++_, append-assoc, append-nil}
-use Prim.Native.Nat.{ℕ, zero, suc, _+_, _-_, _≤_, _<_}
+use mathlib.Core.List.{List, [], _∷_, _++_, append-assoc}
+use Prim.Native.Nat.{ℕ, zero, suc, _+_, _-_, _≤_}
 use native.Mathlib.Omega.{arith}
-use lib.ListN.{length, set, take, drop, replicate, length-append, length-replicate}
+use lib.ListN.{length, set, take, replicate, length-append, length-replicate}
 use lib.Seq.{sets, take-at, drop-at}
 use Rattle.slices.specs.Part.{part}
 use Rattle.slices.proofs.PartLaws.{part-append, part-take}

@@ -2,11 +2,10 @@
 -- Assumes nothing.
 use mathlib.Core.Path.{refl}
 use mathlib.Core.Bool.{Bool, true, false, not}
-use mathlib.Core.List.{List, [], _∷_, _++_}
+use mathlib.Core.List.{List, [], _∷_}
 use Prim.Native.Nat.{ℕ, _≤_}
 use native.Mathlib.Omega.{arith}
 use lib.ListN.{length}
-use Rattle.slices.specs.Part.{part}
 use Rattle.slices.proofs.PartLaws.{length-part}
 use Rattle.fields.specs.Pieces.{held, Placed}
 use Rattle.fields.specs.Head.{continues, routePieces, placePieces, headPieces, tailPieces}

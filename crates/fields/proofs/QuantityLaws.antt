@@ -1,29 +1,27 @@
 -- The laws of the number fields, of the turn and of the terminator.
 -- Assumes nothing.
 use mathlib.Core.Path.{_≡_, refl, sym, ap, subst, _∙_}
-use mathlib.Core.Bool.{Bool, true, false, _&&_, and-false}
+use mathlib.Core.Bool.{Bool, true, false, and-false}
 use mathlib.Core.Logic.{_⊎_, inl, inr, ⊎-elim}
-use mathlib.Core.List.{List, [], _∷_, _++_, append-nil, List·Memᴰ, List·Memᴰ·not-nil, List·Memᴰ·cases-cons}
-use Prim.Native.Nat.{ℕ, zero, suc, _+_, _-_, _*_, _^_, _/_, _%_, _≤_, _<_}
-use Prim.Native.Char.{code}
+use mathlib.Core.List.{List, [], _∷_, _++_, append-nil, List·Memᴰ·not-nil, List·Memᴰ·cases-cons}
+use Prim.Native.Nat.{ℕ, suc, _+_, _-_, _^_, _≤_, _<_}
 use native.Mathlib.Omega.{arith}
-use native.Mathlib.Nat.{pow-suc, mod-lt, div-lt-iff-lt-mul, mul-comm}
-use lib.Dec.{eqb, ltb}
+use lib.Dec.{ltb}
 use lib.ListN.{length, getD, replicate, length-append}
-use borrow.Author.Tests.{lt-ltb, ltb-true, ne-eqb, eqb-true}
+use borrow.Author.Tests.{lt-ltb, ltb-true, ne-eqb}
 use Rattle.slices.specs.Part.{part, blank}
 use Rattle.slices.proofs.Cases.{split}
-use Rattle.slices.proofs.PartLaws.{part-all, blank-replicate, blank-means}
+use Rattle.slices.proofs.PartLaws.{part-all, blank-replicate}
 use Rattle.columns.specs.Patterns.{codes, each}
 use Rattle.columns.specs.Terminators.{terminators}
-use Rattle.columns.specs.Words.{Each, Digit, Digits, AtMost, Between, Blank, Or, OrBlank, Then, Is, Code, OneOf, value, Altitude, Tenths, Course}
+use Rattle.columns.specs.Words.{Each, Digit, Digits, Blank, OrBlank, Then, Is, Code, OneOf, Altitude, Tenths, Course}
+use Rattle.digits.specs.Digits.{value}
 use Rattle.columns.proofs.FieldLaws.{value-below}
 use Rattle.columns.proofs.Printable.{each-at}
 use Rattle.leg.specs.Terminator.{terminatorOf, nameOf}
-use Rattle.leg.specs.declared.terminator.Terminator.{Terminator}
 use Rattle.leg.proofs.Legality.{named-back}
 use Rattle.leg.proofs.TerminatorLaws.{row-of}
-use Rattle.fields.specs.Pieces.{held, padded}
+use Rattle.fields.specs.Pieces.{padded}
 use Rattle.fields.specs.Numbers.{digitsOf, marked, numeral}
 use Rattle.fields.specs.Quantities.{
   rnpOf,
@@ -70,7 +68,7 @@ use Rattle.fields.specs.declared.quantities.VerticalAngle.{VerticalAngle
 use Rattle.fields.specs.declared.quantities.VerticalAngle.the-variants as verticalAngle
 use Rattle.fields.specs.declared.turn.Turn.{Turn}
 use Rattle.fields.specs.declared.turn.Turn.the-variants as turn
-use Rattle.fields.proofs.NumberLaws.{power-positive, digits-length, digits-value, digits-back, digits-each}
+use Rattle.fields.proofs.NumberLaws.{digits-length, digits-value, digits-back, digits-each}
 use Rattle.fields.proofs.Field.{Sound, Field}
 use Rattle.fields.proofs.TextLaws.{padded-full, padded-none, unsound}
 

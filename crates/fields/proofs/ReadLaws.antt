@@ -1,19 +1,18 @@
 -- What the readers of fields answer, a law for each way that one returns.
 -- Assumes nothing.
-use mathlib.Core.Path.{_≡_, refl, sym, ap, _∙_}
+use mathlib.Core.Path.{_≡_, sym, ap, _∙_}
 use mathlib.Core.Bool.{Bool, true, false, _&&_}
-use mathlib.Core.List.{List, [], _∷_, _++_, append-nil}
-use Prim.Native.Nat.{ℕ, zero, suc, _+_, _-_, _≤_, _<_}
+use mathlib.Core.List.{List, append-nil}
+use Prim.Native.Nat.{ℕ, _+_, _-_, _≤_, _<_}
 use Prim.Native.Char.{code}
 use native.Mathlib.Omega.{arith}
-use native.Mathlib.Decide.{decLt}
-use lib.Dec.{eqb, ltb}
-use lib.ListN.{length, getD, take, replicate, List·getD-eq-default, length-replicate}
-use lib.Seq.{sets, sets-eq, length-take-le}
-use borrow.Author.Tests.{eq-eqb, ne-eqb, lt-ltb, le-ltb}
+use lib.Dec.{eqb}
+use lib.ListN.{length, getD, replicate, List·getD-eq-default}
+use lib.Seq.{sets, sets-eq}
+use borrow.Author.Tests.{ne-eqb}
 use Rattle.slices.specs.Part.{part, blank}
 use Rattle.slices.proofs.PartLaws.{getD-any, getD-part, length-part, part-part}
-use Rattle.columns.specs.Words.{value}
+use Rattle.digits.specs.Digits.{value}
 use Rattle.fields.specs.Text.{letterOf}
 use Rattle.fields.specs.Turn.{turnOf}
 use Rattle.fields.specs.Quantities.{courseOf, distanceOf, altitudeOf, verticalAngleOf}

@@ -3,32 +3,30 @@
 -- Assumes nothing.
 use mathlib.Core.Path.{_≡_, refl, sym, ap, subst, _∙_}
 use mathlib.Core.Bool.{Bool, true, false, not, cond, false≢true}
-use mathlib.Core.Logic.{_↔_, _⊎_, inl, inr, ⊎-elim}
+use mathlib.Core.Logic.{_⊎_, inl, inr, ⊎-elim}
 use mathlib.Core.List.{List, [], _∷_, _++_, List·Memᴰ·not-nil, List·Memᴰ·cases-cons}
 use Prim.Native.Nat.{ℕ, suc, _+_, _-_, _≤_, _<_}
 use Prim.Native.Char.{code}
 use native.Mathlib.Omega.{arith}
-use lib.ListN.{length, getD, replicate}
+use lib.ListN.{length, getD}
 use borrow.Author.Tests.{eq-eqb}
-use Rattle.slices.specs.Part.{part, blank}
-use Rattle.slices.proofs.Cases.{split}
+use Rattle.slices.specs.Part.{part}
 use Rattle.slices.proofs.PartLaws.{length-part, part-part, part-all}
 use Rattle.columns.specs.ByteSets.{fits}
 use Rattle.columns.specs.Patterns.{codes, each}
 use Rattle.columns.specs.Kinds.{kindOf, firstBadField}
 use Rattle.columns.specs.Rows.{byteIn}
-use Rattle.columns.specs.Words.{columns, ContinuationNumber, Is, Blank, Code, OneOf, All, Digits, Then, Cycle, value, Distance, Front, Leg as LegContent, Application, Back, PrimaryContent, ContinuationContent}
+use Rattle.columns.specs.Words.{columns, ContinuationNumber, Is, Blank, Code, OneOf, All, Digits, Cycle, Distance, Front, Leg as LegContent, Application, Back, PrimaryContent, ContinuationContent}
 use Rattle.columns.specs.Terminators.{terminators}
 use Rattle.columns.specs.declared.Kind.{Kind}
 use Rattle.columns.specs.declared.Kind.the-variants as kind
-use Rattle.columns.proofs.Content.{legal, primary-kind, continuation-kind}
+use Rattle.columns.proofs.Content.{legal}
 use Rattle.columns.proofs.LetterLaws.{continuationNumber}
 use Rattle.columns.proofs.Printable.{printable-columns}
 use Rattle.leg.specs.Terminator.{terminatorOf, nameOf, isHolding}
-use Rattle.leg.specs.Legal.{LegalLeg, Legal}
 use Rattle.leg.proofs.Legality.{named-back}
 use Rattle.leg.proofs.TerminatorLaws.{row-of}
-use Rattle.fields.specs.Pieces.{Piece, padded, held, putAll, blanks, Placed, Holds}
+use Rattle.fields.specs.Pieces.{padded, held, putAll, blanks, Holds}
 use Rattle.fields.specs.Text.{textOf, textBytes, wordOf, wordBytes, letterOf, letterBytes}
 use Rattle.fields.specs.Quantities.{distanceOf, distanceBytes}
 use Rattle.fields.specs.Head.{continues, routeOf, fixOf, headOf, cycleOf, tailOf, routePieces, placePieces, headPieces, tailPieces}

@@ -1,16 +1,16 @@
 -- The laws of text, words, letters, single bytes and codes.
 -- Assumes nothing.
-use mathlib.Core.Path.{_≡_, refl, sym, ap, subst, _∙_}
-use mathlib.Core.Bool.{Bool, true, false, false≢true}
+use mathlib.Core.Path.{_≡_, refl, sym, ap, _∙_}
+use mathlib.Core.Bool.{false}
 use mathlib.Core.List.{List, [], _∷_, _++_, append-nil}
-use Prim.Native.Nat.{ℕ, zero, suc, _+_, _-_, _≤_, _<_}
+use Prim.Native.Nat.{ℕ, zero, suc, _+_, _-_, _≤_}
 use native.Mathlib.Omega.{arith}
 use lib.Dec.{eqb}
 use lib.ListN.{length, getD, replicate}
-use borrow.Author.Tests.{eqb-true, ne-eqb}
+use borrow.Author.Tests.{eqb-true}
 use Rattle.slices.specs.Part.{part, blank}
 use Rattle.slices.proofs.Cases.{split}
-use Rattle.slices.proofs.PartLaws.{length-part, part-append, part-all, blank-means, blank-replicate}
+use Rattle.slices.proofs.PartLaws.{length-part, part-append, blank-means, blank-replicate}
 use Rattle.fields.specs.Pieces.{padded}
 use Rattle.fields.specs.Text.{bytesOf, textOf, textBytes, wordOf, wordBytes, letterOf, letterBytes}
 use Rattle.fields.specs.declared.text.Text.{Text}

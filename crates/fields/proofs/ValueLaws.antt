@@ -1,17 +1,14 @@
 -- Every number part of a leg has the decimal value of its own columns, in its own unit.
 -- Assumes nothing.
 use mathlib.Core.Path.{_≡_, refl, sym, ap, _∙_}
-use mathlib.Core.Bool.{Bool, true, false, cond}
-use mathlib.Core.List.{List, [], _∷_, _++_, append-nil}
+use mathlib.Core.Bool.{Bool, true, false}
+use mathlib.Core.List.{List, [], _++_, append-nil}
 use Prim.Native.Nat.{ℕ, _≤_}
-use Prim.Native.Char.{code}
 use native.Mathlib.Omega.{arith}
-use lib.ListN.{length, getD}
-use Rattle.slices.specs.Part.{part, blank}
+use Rattle.slices.specs.Part.{blank}
 use Rattle.slices.proofs.PartLaws.{blank-replicate}
 use Rattle.columns.specs.Patterns.{codes}
-use Rattle.columns.specs.Rows.{byteIn}
-use Rattle.columns.specs.Words.{columns, value, Blank, Digits, Then, Is, Distance, PrimaryContent}
+use Rattle.columns.specs.Words.{columns, Blank, Digits, Distance, PrimaryContent}
 use Rattle.leg.specs.Terminator.{terminatorOf, isHolding}
 use Rattle.fields.specs.Quantities.{
   rnpOf,
@@ -29,23 +26,7 @@ use Rattle.fields.specs.Head.{headOf, tailOf, cycleOf}
 use Rattle.fields.specs.Leg.{legOf}
 use Rattle.fields.specs.Values.{AltitudeValue, Values}
 use Rattle.fields.specs.declared.quantities.Distance.the-variants as distance
-use Rattle.fields.proofs.QuantityLaws.{
-  digits-filled,
-  vertical-of,
-  vertical-blank,
-  course-blank,
-  course-magnetic,
-  course-true,
-  altitude-blank,
-  altitude-feet,
-  altitude-level,
-  altitude-below,
-  distance-blank,
-  distance-miles,
-  distance-minutes,
-  DistanceOn,
-  minutes-on,
-}
+use Rattle.fields.proofs.QuantityLaws.{digits-filled, vertical-of, vertical-blank, course-blank, course-magnetic, course-true, altitude-blank, altitude-feet, altitude-level, altitude-below, distance-blank, distance-miles, distance-minutes, minutes-on}
 use Rattle.fields.proofs.RoundTrip.{distance-on}
 
 -- a test for blanks, of a field of blanks and of one of digits

@@ -6,7 +6,8 @@ use mathlib.Core.Bool.{Bool}
 use mathlib.Core.List.{List, [], _∷_, _++_}
 use Rattle.columns.specs.ByteSets.{fits}
 use Rattle.columns.specs.Rows.{byteIn}
-use Rattle.columns.specs.Words.{columns, value}
+use Rattle.columns.specs.Words.{columns}
+use Rattle.digits.specs.Digits.{value}
 use Rattle.fields.specs.Pieces.{Piece, piece, gap}
 use Rattle.fields.specs.Numbers.{numeral}
 use Rattle.fields.specs.Text.{textOf, textBytes, wordOf, wordBytes, letterOf, letterBytes}

@@ -10,7 +10,7 @@ use lib.IntN.{ℤ, pos, negsuc}
 use lib.ListN.{getD}
 use Rattle.slices.specs.Part.{part, blank}
 use Rattle.columns.specs.Patterns.{codes}
-use Rattle.columns.specs.Words.{value}
+use Rattle.digits.specs.Digits.{value}
 use Rattle.fields.specs.Numbers.{marked, numeral}
 use Rattle.fields.specs.declared.quantities.Rnp.{Rnp}
 use Rattle.fields.specs.declared.quantities.Rnp.the-variants as rnp

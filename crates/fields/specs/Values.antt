@@ -4,8 +4,8 @@ use Prim.Native.Nat.{ℕ}
 use mathlib.Core.Path.{_≡_}
 use mathlib.Core.List.{List, _++_}
 use Rattle.columns.specs.Patterns.{codes}
-use Rattle.columns.specs.Words.{columns, value, Blank, Digits}
-use Rattle.fields.specs.Leg.{legOf}
+use Rattle.columns.specs.Words.{columns, Blank, Digits}
+use Rattle.digits.specs.Digits.{value}
 use Rattle.fields.specs.declared.quantities.Rnp.the-variants as rnp
 use Rattle.fields.specs.declared.quantities.ArcRadius.the-variants as arcRadius
 use Rattle.fields.specs.declared.quantities.Theta.the-variants as theta

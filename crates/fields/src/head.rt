@@ -3,12 +3,12 @@
 ghost use mathlib.Core.Path.{_≡_};
 ghost use Rattle.fields.specs.Pieces.{putAll};
 ghost use Rattle.fields.specs.Head.{continues, routeOf, fixOf, headOf, cycleOf, tailOf, routePieces, placePieces, headPieces, tailPieces};
-use crate::numbers::number;
 use crate::numbers::put_number;
 use crate::text::Letter;
 use crate::text::Text;
 use crate::text::Word;
 use crate::text::put_byte;
+use digits::number;
 use slices::byte_at;
 
 // Columns 1-25, by which a route is known. Column 5 is always P.

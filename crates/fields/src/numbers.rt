@@ -1,38 +1,14 @@
-// Numbers in decimal digits: read from columns, and put into them between marks. Assumes of its callers, all in this crate, that a
+// Numbers in decimal digits, put into columns between marks. Assumes of its callers, all in this crate, that a
 // number has at most six digits and a mark at most two letters.
 ghost use mathlib.Core.Path.{_≡_};
 ghost use mathlib.Core.List.{[]};
 ghost use Prim.Native.Nat.{_+_, _-_, _^_, _≤_, _<_};
 ghost use lib.ListN.{length};
 ghost use lib.Seq.{sets};
-ghost use Rattle.slices.specs.Part.{part};
-ghost use Rattle.columns.specs.Words.{value};
 ghost use Rattle.fields.specs.Pieces.{put};
 ghost use Rattle.fields.specs.Numbers.{digitsOf, marked};
-use slices::byte_after;
 use slices::copy;
 use slices::put_after;
-
-// What a byte counts as a digit; one below the digits counts 0.
-fn digit(b: u8) -> u32
-    ensures { λ r. ⌜ (r ≡ b - 48) × (r ≤ 207) ⌝ }
-{
-    if b < 48 { 0 } else { (b - 48) as u32 }
-}
-
-// The decimal value of the digits from `at` on.
-pub(crate) fn number(rec: &[u8], at: usize, width: usize) -> u32
-    requires { ⌜ width ≤ 6 ⌝ }
-    ensures { λ r. ⌜ r ≡ value (part width at (now (rec .entry))) ⌝ }
-{
-    let mut n = 0;
-    let mut k = 0;
-    while k < width {
-        n = n * 10 + digit(byte_after(rec, at, k));
-        k += 1;
-    }
-    n
-}
 
 fn power(n: usize) -> u32
     requires { ⌜ n ≤ 6 ⌝ }

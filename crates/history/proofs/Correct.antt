@@ -4,7 +4,7 @@
 use mathlib.Core.Path.{_≡_, refl, sym, _∙_, ap, subst}
 use mathlib.Core.Bool.{true, cond}
 use mathlib.Core.List.{[], _∷_}
-use mathlib.Core.Option.{Option, none, some, Option·map, map-eq-some-iff, bind-eq-some-iff}
+use mathlib.Core.Option.{none, some, Option·map, map-eq-some-iff, bind-eq-some-iff}
 use mathlib.Core.Logic.{inl, inr, by-cases}
 use Rattle.history.proofs.Cases.{Every, every-then, every-some, cond-some}
 use Rattle.slices.proofs.Cases.{and-left, and-right}

@@ -4,7 +4,7 @@
 use mathlib.Core.Path.{_≡_, refl, sym, _∙_, ap}
 use mathlib.Core.Bool.{true, false}
 use mathlib.Core.List.{[]}
-use mathlib.Core.Option.{Option, some, bind, Option·map, bind-eq-some-iff}
+use mathlib.Core.Option.{some, bind, Option·map, bind-eq-some-iff}
 use mathlib.Core.Logic.{if-pos, if-neg, by-cases}
 use Prim.Native.Nat.{ℕ, zero, suc, _≤_}
 use native.Mathlib.Omega.{arith}

@@ -1,43 +1,36 @@
 -- What the customer must believe of one record alone, read and written.
 -- Assumes nothing.
 use mathlib.Core.Path.{_≡_, refl, sym, ap, subst, _∙_}
-use mathlib.Core.Bool.{Bool, true, false, not, cond, false≢true}
-use mathlib.Core.Logic.{_↔_, _⊎_, inl, inr, ⊎-elim}
+use mathlib.Core.Bool.{cond}
+use mathlib.Core.Logic.{_↔_, inl, inr}
 use mathlib.Core.List.{List, [], _∷_, _++_, append-assoc}
-use Prim.Native.Nat.{ℕ, zero, suc, _+_, _-_, _≤_, _<_}
-use Prim.Native.Char.{code}
+use Prim.Native.Nat.{ℕ, _+_, _-_, _≤_, _<_}
 use native.Mathlib.Omega.{arith}
 use native.Mathlib.Decide.{decLt}
 use lib.Dec.{eqb, ltb}
 use lib.ListN.{length, getD, take, drop, replicate, length-append, take-append-drop, drop-of-length-le}
 use lib.Seq.{take-at, getD-at, drop-cons, length-take-le}
-use borrow.Author.Tests.{lt-ltb, le-ltb, eq-eqb, ne-eqb, eqb-true}
-use Rattle.slices.specs.Part.{part, blank}
+use borrow.Author.Tests.{lt-ltb, le-ltb, eqb-true}
+use Rattle.slices.specs.Part.{part}
 use Rattle.slices.proofs.Cases.{split}
 use Rattle.slices.proofs.PartLaws.{part-all}
-use Rattle.columns.specs.ByteSets.{fits}
-use Rattle.columns.specs.Kinds.{kindOf, firstBadField}
-use Rattle.columns.specs.Words.{PrimaryContent, ContinuationContent}
+use Rattle.columns.specs.Words.{ContinuationContent}
 use Rattle.columns.specs.declared.Kind.{Kind}
 use Rattle.columns.specs.declared.Kind.the-variants as kind
-use Rattle.columns.proofs.Content.{legal, primary-kind, continuation-kind}
+use Rattle.columns.proofs.Content.{primary-kind, continuation-kind}
 use Rattle.refusals.specs.Table.{cutShort, bufferTooShort}
 use Rattle.refusals.specs.declared.Verdict.{Verdict}
 use Rattle.refusals.specs.declared.Verdict.the-variants.{Accepted, Refused}
-use Rattle.leg.specs.Judge.{stage, judged}
+use Rattle.leg.specs.Judge.{judged}
 use Rattle.leg.specs.Legal.{LegalLeg, Legal}
 use Rattle.leg.proofs.Legality.{accepted-iff, stage-iff}
-use Rattle.fields.specs.Pieces.{padded, held, putAll, blanks, Holds}
-use Rattle.fields.specs.Head.{continues}
 use Rattle.fields.specs.Leg.{legOf, legPieces, renderLeg}
 use Rattle.fields.specs.Continuation.{continuationOf, contentOf, continuationPieces, renderContinuation}
-use Rattle.parts.specs.Record.{sizeColumn, columnsOf, alone, legReading, continuationReading, readingBy, readingOf, writing, writtenBy, written}
+use Rattle.parts.specs.Record.{sizeColumn, columnsOf, alone, legReading, continuationReading, readingOf, writing, writtenBy, written}
 use Rattle.fields.specs.declared.primary.Leg.{Leg}
 use Rattle.fields.specs.declared.continuation.Continuation.{Continuation}
 use Rattle.parts.specs.declared.Parts.the-variants as parts
-use Rattle.parts.specs.declared.Reading.{Reading}
-use Rattle.fields.proofs.PieceLaws.{made-holds, length-made}
-use Rattle.fields.proofs.Placed.{leg-placed, continuation-placed}
+use Rattle.fields.proofs.PieceLaws.{length-made}
 use Rattle.fields.proofs.RoundTrip.{leg-round, continuation-round, leg-again, continuation-again, leg-kind, continuation-not-primary}
 
 -- ---- the round trip

@@ -11,6 +11,7 @@ use Rattle.slices.specs.declared.Ordering.{Ordering}
 use Rattle.slices.specs.declared.Ordering.the-variants.{Less, Equal, Greater}
 use Rattle.slices.specs.Order.{order}
 use Rattle.slices.proofs.Cases.{split}
+use Rattle.refusals.proofs.VerdictLaws.{never}
 use Rattle.columns.specs.Words.{columns}
 use Rattle.columns.specs.Kinds.{kindOf, firstBadField}
 use Rattle.columns.specs.declared.Kind.{Kind}
@@ -27,7 +28,6 @@ use Rattle.routes.specs.Stages.{Seen, nothing, columnsTo, continuationCo
 use Rattle.routes.specs.Walk.{stagesAfter, judgedNext, seenWith, walkFrom, finished, walked}
 use Rattle.routes.specs.Files.{sizeStage, tailStage, fileVerdict}
 use Rattle.routes.specs.First.{AllAccept, none, also, First, here, there, FirstRecord, at, behind, Names, Naming}
-use Rattle.routes.proofs.InTurnLaws.{never}
 
 -- ---- verdicts in turn
 

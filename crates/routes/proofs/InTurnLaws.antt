@@ -3,16 +3,11 @@
 use mathlib.Core.Path.{_≡_, refl, sym, _∙_}
 use mathlib.Core.Logic.{_↔_}
 use mathlib.Core.List.{List, [], _∷_}
-use Prim.Native.Nat.{ℕ}
-use native.Mathlib.Omega.{arith}
 use Rattle.refusals.specs.declared.Refusal.{Refusal}
 use Rattle.refusals.specs.declared.Verdict.{Verdict}
 use Rattle.refusals.specs.declared.Verdict.the-variants.{Accepted, Refused}
+use Rattle.refusals.proofs.VerdictLaws.{never}
 use Rattle.routes.specs.InTurn.{inTurn}
-
--- a refusal is no acceptance
-pub never : {r : Refusal} → Refused r ≡ Accepted → ⊥
-never e = let z : _≡_ {A = ℕ} 0 1 = cc in omega arith
 
 -- one verdict by itself
 pub alone : (v : Verdict) → inTurn (v ∷ []) ≡ v

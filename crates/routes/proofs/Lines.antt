@@ -12,6 +12,7 @@ use borrow.Author.Tests.{le-leb, leb-true, eqb-true}
 use Rattle.slices.proofs.Cases.{split}
 use Rattle.refusals.specs.Table.{cutShort}
 use Rattle.refusals.specs.declared.Verdict.the-variants.{Accepted}
+use Rattle.refusals.proofs.VerdictLaws.{never}
 use Rattle.leg.proofs.Legality.{stage-iff}
 use Rattle.routes.specs.Sources.{leading, records}
 use Rattle.routes.specs.Stages.{nothing}
@@ -19,7 +20,7 @@ use Rattle.routes.specs.Walk.{walkFrom, finished, walked}
 use Rattle.routes.specs.Files.{sizeStage, tailColumn, tailStage, fileVerdict}
 use Rattle.routes.specs.Places.{placeOf, Every, Rising}
 use Rattle.routes.specs.Legal.{lines, Wide}
-use Rattle.routes.proofs.InTurnLaws.{never, alone, accepts-iff, four-accept}
+use Rattle.routes.proofs.InTurnLaws.{alone, accepts-iff, four-accept}
 use Rattle.routes.proofs.SourceLaws.{line-within, at-most}
 use Rattle.routes.proofs.FileLaws.{tail-none}
 use Rattle.routes.proofs.Routes.{places-rise}

@@ -15,6 +15,7 @@ use Rattle.slices.specs.declared.Ordering.the-variants.{Less, Equal, Greater}
 use Rattle.slices.proofs.Cases.{split}
 use Rattle.slices.proofs.PartLaws.{length-part}
 use Rattle.slices.proofs.OrderLaws.{order-equal, order-refl, equal-iff}
+use Rattle.refusals.proofs.VerdictLaws.{never}
 use Rattle.columns.specs.Rows.{byteIn}
 use Rattle.columns.specs.Words.{columns}
 use Rattle.columns.specs.Kinds.{kindOf}
@@ -31,7 +32,7 @@ use Rattle.routes.specs.Pairs.{terminatorIn, firstLeg, pair}
 use Rattle.routes.specs.Stages.{Seen, nothing, numberAfter, firstDifference, awaits, continuationColumn, continuationStage, byOrder, sequenceStage, orderStage, legStands, legStage}
 use Rattle.routes.specs.Walk.{stagesAfter, judgedNext, seenWith, last, walkFrom, finished, walked}
 use Rattle.routes.specs.Places.{keyOf, sequenceOf, Before}
-use Rattle.routes.proofs.InTurnLaws.{never, alone, accepts-iff, four-accept}
+use Rattle.routes.proofs.InTurnLaws.{alone, accepts-iff, four-accept}
 
 -- ---- the stages, one by one
 

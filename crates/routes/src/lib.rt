@@ -6,7 +6,7 @@ mod stages;
 
 ghost use mathlib.Core.Path.{_≡_};
 ghost use mathlib.Core.List.{[], _∷_};
-ghost use Prim.Native.Nat.{_≤_, min};
+ghost use Prim.Native.Nat.{_≤_};
 ghost use lib.ListN.{length};
 ghost use Rattle.routes.specs.InTurn.{inTurn};
 ghost use Rattle.routes.specs.Sources.{recordAt, recordsIn, sourcesOf};
@@ -16,6 +16,7 @@ ghost use Rattle.routes.specs.Files.{tailStage, fileVerdict};
 use columns::Kind;
 use refusals::Refusal;
 use refusals::Verdict;
+use slices::least;
 
 // Where the key of a route ends, and the head that a continuation shares with its primary; the column of the continuation number.
 const KEY: usize = 25;
@@ -102,13 +103,6 @@ pub fn primary_after<'a>(primary: &'a [u8], rec: &'a [u8]) -> &'a [u8]
         Kind::Primary => rec,
         Kind::Continuation => primary,
     }
-}
-
-// The lesser of two numbers.
-fn least(a: usize, b: usize) -> usize
-    ensures { λ r. ⌜ r ≡ min a b ⌝ }
-{
-    if a < b { a } else { b }
 }
 
 // Judges the records of a range of sources in sequence, counted from 1; what follows the last of them is not looked at.

@@ -12,6 +12,7 @@ use lib.ListN.{length, getD, take, drop, replicate, length-map, List·getD-map}
 use borrow.Author.Tests.{leb-true, ltb-true, ltb-false}
 use Rattle.slices.proofs.Cases.{split}
 use Rattle.slices.proofs.PartLaws.{getD-any}
+use Rattle.slices.specs.Part.{padded}
 use Rattle.refusals.specs.declared.Refusal.{Refusal}
 use Rattle.refusals.specs.declared.Verdict.the-variants.{Accepted}
 use Rattle.routes.specs.Files.{fileVerdict}
@@ -19,7 +20,7 @@ use Rattle.routes.specs.Legal.{lines, Wide}
 use Rattle.routes.specs.Places.{Every}
 use Rattle.routes.specs.Sources.{recordWithin, recordAt}
 use Rattle.routes.proofs.Lines.{length-lines}
-use Rattle.applying.specs.Bounds.{padded, sourcesFor}
+use Rattle.applying.specs.Bounds.{sourcesFor}
 use Rattle.selection.specs.Pick.{Pick, refusedBy, picked, pickOf, newRecords, newBytes, lineIn, filePick, pickedAs}
 use Rattle.selection.proofs.Demand.{picked-demand}
 use Rattle.selection.proofs.StoredLaws.{in-use-all}

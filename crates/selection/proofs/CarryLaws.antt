@@ -8,14 +8,15 @@ use native.Mathlib.Omega.{arith}
 use lib.Dec.{eqb}
 use lib.ListN.{length, replicate, getD-replicate}
 use lib.Seq.{take-all}
+use Rattle.slices.specs.Part.{padded}
 use Rattle.refusals.specs.declared.Refusal.{Refusal}
 use Rattle.refusals.specs.declared.Verdict.{Verdict}
 use Rattle.refusals.specs.declared.Verdict.the-variants.{Accepted, Refused}
+use Rattle.refusals.proofs.VerdictLaws.{never, same-refusal}
 use Rattle.routes.specs.Files.{fileVerdict}
 use Rattle.routes.specs.InTurn.{inTurn}
 use Rattle.routes.specs.Sources.{records, inUse, sourcesOf}
 use Rattle.routes.specs.declared.Sources.{Sources}
-use Rattle.routes.proofs.InTurnLaws.{never}
 use Rattle.routes.proofs.SourceLaws.{own-count}
 use Rattle.history.specs.Sets.{Numbers}
 use Rattle.corrections.specs.Reading.{Entry, Reading, refused, said, readLog, indexOf}
@@ -23,7 +24,7 @@ use Rattle.corrections.specs.declared.Index.{Index}
 use Rattle.corrections.proofs.FrontLaws.{not-said}
 use Rattle.corrections.proofs.Legality.{verdict-said}
 use Rattle.applying.specs.Apply.{Within, entriesFrom}
-use Rattle.applying.specs.Bounds.{padded, ranOver, ranAs}
+use Rattle.applying.specs.Bounds.{ranOver, ranAs}
 use Rattle.applying.specs.Correct.{Outcome, stopped, reached, corrected}
 use Rattle.applying.specs.Run.{byCorrection, onward, ran, marked}
 use Rattle.selection.specs.Reliance.{reliances, Taken}
@@ -52,7 +53,6 @@ use Rattle.selection.specs.Pick.{
 use Rattle.selection.specs.declared.Picked.{Picked}
 use Rattle.selection.specs.declared.carry.Members.{Members}
 use Rattle.applying.specs.declared.Ran.{Ran}
-use Rattle.applying.proofs.RunLaws.{same-refusal}
 use Rattle.applying.proofs.BoundLaws.{ran-bound}
 use Rattle.selection.proofs.GroupLaws.{read-by-correction}
 use Rattle.selection.proofs.IndexLaws.{first-lines, read-sound}

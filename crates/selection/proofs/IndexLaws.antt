@@ -9,14 +9,15 @@ use lib.ListN.{length, getD, take, drop, replicate, length-map, List·getD-appen
 use lib.Seq.{drop-cons, getD-append-add}
 use borrow.Author.Tests.{ltb-true, ltb-false}
 use Rattle.slices.proofs.Cases.{split}
-use Rattle.corrections.specs.Reading.{Entry, entry, said, readLog, padded, indexOf}
+use Rattle.slices.proofs.PartLaws.{zero-at}
+use Rattle.slices.specs.Part.{padded}
+use Rattle.corrections.specs.Reading.{Entry, entry, said, readLog, indexOf}
 use Rattle.corrections.specs.declared.Index.{Index}
 use Rattle.corrections.proofs.TextLaws.{entriesIn}
 use Rattle.corrections.proofs.Within.{EveryEntry, Lies, legal-read, legal-lies, at-most-444}
 use Rattle.corrections.proofs.Spelling.{said-legal}
 use Rattle.selection.proofs.GroupLaws.{said-same}
 use Rattle.applying.specs.Apply.{entryAt, entriesFrom, Within}
-use Rattle.applying.proofs.KnownLaws.{zero-at}
 
 -- the line that stands where there is none
 abbrev pub noLine : Entry
@@ -30,7 +31,7 @@ padded-past xs n k h =
     ap (λ (j : ℕ). getD (xs ++ replicate n 0) j 0) e ∙ getD-append-add xs (replicate n 0) i 0 ∙ zero-at n i
 
 -- numbers of the lines, and zeros behind them
-pub column-at : (g : Entry → ℕ) (es : List Entry) (k : ℕ) → g noLine ≡ 0 → getD (padded (map g es)) k 0 ≡ g (getD es k noLine)
+pub column-at : (g : Entry → ℕ) (es : List Entry) (k : ℕ) → g noLine ≡ 0 → getD (padded 444 (map g es)) k 0 ≡ g (getD es k noLine)
 column-at g es k z =
     split (ltb k (length es))
     (λ t.

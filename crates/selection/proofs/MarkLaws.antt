@@ -12,7 +12,7 @@ use lib.Dec.{eqb, ltb}
 use lib.ListN.{length, getD, set, replicate, length-set, length-replicate, List·getD-eq-default}
 use lib.Seq.{getD-set-same, getD-set-other}
 use Rattle.slices.proofs.Cases.{split, and-left, and-right}
-use Rattle.applying.proofs.KnownLaws.{zero-at}
+use Rattle.slices.proofs.PartLaws.{zero-at}
 use Rattle.selection.specs.Reliance.{namedBy, Relies, Reach, here, step, In, ClosedMarks, Spread, Marked, Taken}
 
 -- ---- what a line names

@@ -16,12 +16,12 @@ use Rattle.refusals.specs.Table.{logTooLong, notInLog}
 use Rattle.refusals.specs.declared.Refusal.{Refusal}
 use Rattle.refusals.specs.declared.Verdict.{Verdict}
 use Rattle.refusals.specs.declared.Verdict.the-variants.{Accepted, Refused}
+use Rattle.refusals.proofs.VerdictLaws.{never}
 use Rattle.corrections.specs.Reading.{refused, readLog, indexOf}
 use Rattle.corrections.specs.declared.Index.{Index}
 use Rattle.routes.specs.Files.{fileVerdict}
 use Rattle.routes.specs.InTurn.{inTurn}
 use Rattle.routes.specs.Places.{Every}
-use Rattle.routes.proofs.InTurnLaws.{never}
 use Rattle.routes.specs.Sources.{records}
 use Rattle.selection.specs.Pick.{lengthStage, opened, wantedStage}
 

@@ -8,12 +8,12 @@ use native.Mathlib.Omega.{arith}
 use lib.ListN.{length}
 use Rattle.refusals.specs.declared.Verdict.{Verdict}
 use Rattle.refusals.specs.declared.Verdict.the-variants.{Accepted, Refused}
+use Rattle.refusals.proofs.VerdictLaws.{never}
 use Rattle.corrections.specs.Reading.{Entry, Reading, refused, said}
 use Rattle.corrections.specs.Text.{LegalLog}
 use Rattle.corrections.proofs.TextLaws.{entriesIn}
 use Rattle.routes.specs.Files.{fileVerdict}
 use Rattle.routes.specs.Sources.{recordAt, records}
-use Rattle.routes.proofs.InTurnLaws.{never}
 use Rattle.history.specs.Apply.{Correction, run}
 use Rattle.history.specs.Sets.{Numbers, closure, choose}
 use Rattle.history.specs.Demand.{Carried}

@@ -7,7 +7,7 @@ use native.Mathlib.Omega.{arith}
 use lib.ListN.{length, getD, set, drop, replicate, length-map, length-replicate, drop-of-length-le}
 use lib.Seq.{sets, drop-cons, getD-take, take-at}
 use borrow.Author.Tests.{lt-ltb, le-ltb}
-use Rattle.slices.specs.Part.{part}
+use Rattle.slices.specs.Part.{part, padded}
 use Rattle.slices.proofs.PartLaws.{length-part, part-all}
 use Rattle.slices.proofs.WriteLaws.{sets-append, stored-front}
 use Rattle.refusals.specs.Table.{bufferTooShort}
@@ -19,7 +19,7 @@ use Rattle.routes.specs.declared.Sources.{Sources}
 use Rattle.routes.proofs.Lines.{length-lines}
 use Rattle.selection.specs.Pick.{Pick, refusedBy, picked, pickOf, newRecords, newBytes, filePick, pickedAs, stored}
 use Rattle.selection.specs.declared.Picked.{Picked}
-use Rattle.applying.specs.Bounds.{padded, sourcesFor}
+use Rattle.applying.specs.Bounds.{sourcesFor}
 use Rattle.applying.proofs.BoundLaws.{in-use-length}
 use Rattle.selection.proofs.Demand.{picked-demand}
 

@@ -7,7 +7,7 @@ use mathlib.Core.List.{List, [], _∷_, _++_, map}
 use lib.Dec.{eqb, ltb}
 use lib.ListN.{length, getD}
 use lib.Seq.{sets}
-use Rattle.slices.specs.Part.{part, member}
+use Rattle.slices.specs.Part.{part, member, padded}
 use Rattle.refusals.specs.Table.{logTooLong, notInLog, bufferTooShort}
 use Rattle.refusals.specs.declared.Refusal.{Refusal}
 use Rattle.refusals.specs.declared.Verdict.{Verdict}
@@ -20,7 +20,7 @@ use Rattle.routes.specs.InTurn.{inTurn}
 use Rattle.routes.specs.Legal.{lines}
 use Rattle.routes.specs.Sources.{recordAt, records, sourcesOf, inUse}
 use Rattle.routes.specs.declared.Sources.{Sources}
-use Rattle.applying.specs.Bounds.{padded, sourcesFor}
+use Rattle.applying.specs.Bounds.{sourcesFor}
 use Rattle.applying.specs.Correct.{Outcome, stopped, reached}
 use Rattle.applying.specs.Run.{byCorrection, ran}
 use Rattle.applying.specs.Procedures.{procedures, operations}

@@ -11,7 +11,7 @@ mod relied;
 
 ghost use mathlib.Core.Path.{_≡_};
 ghost use lib.ListN.{length};
-ghost use Rattle.applying.specs.Bounds.{padded};
+ghost use Rattle.slices.specs.Part.{padded};
 ghost use Rattle.selection.specs.Pick.{logVerdict, pickOf, filePick, newBytes, lineIn, pickedAs};
 use carry::pick_from;
 use carry::refused_pick;

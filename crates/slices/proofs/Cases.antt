@@ -1,13 +1,22 @@
 -- Taking a test, or a joint test, apart by its answer.
 -- Assumes nothing.
-use mathlib.Core.Path.{_≡_, refl}
+use mathlib.Core.Path.{_≡_, refl, sym}
 use mathlib.Core.Logic.{_↔_, _⊎_, inl, inr, ⊎-elim}
-use mathlib.Core.Bool.{Bool, true, false, _&&_, _||_, false≢true}
+use mathlib.Core.Bool.{Bool, true, false, not, _&&_, _||_, false≢true}
 
 -- by the answer of a test, with the answer's equation
 pub split {ℓ} : {C : Type ℓ} (t : Bool) → (t ≡ true → C) → (t ≡ false → C) → C
 split true f g = f refl
 split false f g = g refl
+
+-- a test that the code turns round
+pub is-false : (b : Bool) → not b ≡ true → b ≡ false
+is-false true e = sym e
+is-false false e = refl
+
+pub is-true : (b : Bool) → not b ≡ false → b ≡ true
+is-true true e = refl
+is-true false e = sym e
 
 pub both : {a b : Bool} → a ≡ true → b ≡ true → (a && b) ≡ true
 both p q = rw (p, q)

@@ -125,3 +125,14 @@ pub member-replicate : (b x n : ℕ) → (x ≡ b → ⊥) → member b (replica
 unfolding member
 member-replicate b x zero h = refl
 member-replicate b x (suc n) h = rw (ne-eqb x b h) (member-replicate b x n h)
+
+-- among zeros, and past them, there is 0
+pub zero-at : (n i : ℕ) → _≡_ {A = ℕ} (getD (replicate n 0) i 0) 0
+zero-at zero i = refl
+zero-at (suc n) zero = refl
+zero-at (suc n) (suc i) = zero-at n i
+
+-- nothing has the length 0 but nothing
+pub no-bytes : (xs : List ℕ) → length xs ≡ 0 → xs ≡ []
+no-bytes [] e = refl
+no-bytes (x ∷ xs) e = absurd (omega arith)

@@ -2,7 +2,7 @@
 // that is put past it is dropped, so no function here asks anything of its caller.
 ghost use mathlib.Core.Path.{_≡_};
 ghost use mathlib.Core.List.{_++_};
-ghost use Prim.Native.Nat.{_+_, _-_};
+ghost use Prim.Native.Nat.{_+_, _-_, min};
 ghost use lib.ListN.{getD, length, set, take, drop, replicate};
 ghost use lib.Seq.{sets};
 ghost use Rattle.slices.specs.Part.{part, blank, member};
@@ -13,6 +13,13 @@ pub enum Ordering {
     Less,
     Equal,
     Greater,
+}
+
+// The lesser of two numbers.
+pub fn least(a: usize, b: usize) -> usize
+    ensures { λ r. ⌜ r ≡ min a b ⌝ }
+{
+    if a < b { a } else { b }
 }
 
 // The byte at i, or 0 past the end.

@@ -7,6 +7,7 @@ use mathlib.Core.List.{List, [], _∷_}
 use mathlib.Core.Logic.{_↔_}
 use Prim.Native.Nat.{ℕ, _≤_, _<_}
 use lib.ListN.{length, replicate}
+use Rattle.slices.specs.Part.{padded}
 use Rattle.refusals.specs.Table.{bufferTooShort}
 use Rattle.refusals.specs.declared.Refusal.{Refusal}
 use Rattle.refusals.specs.declared.Verdict.the-variants.{Accepted, Refused}
@@ -31,7 +32,6 @@ use Rattle.corrections.specs.Text.{LegalLog, GoesWrong}
 use Rattle.corrections.proofs.Legality as corrections
 use Rattle.corrections.proofs.Wrong.{goes-wrong}
 use Rattle.selection.specs.Pick.{wantedStage, refusedBy, picked, logVerdict, pickOf, newBytes, filePick}
-use Rattle.applying.specs.Bounds.{padded}
 use Rattle.selection.proofs.Demand.{Demanded, picked-demand, pick-iff}
 use Rattle.selection.proofs.Answers as answers
 

@@ -11,7 +11,7 @@ use Rattle.columns.specs.Patterns.{codes, fitsAll}
 use Rattle.columns.specs.Rows.{stands, matches, firstOf}
 use Rattle.columns.specs.Layout.{primary}
 use Rattle.columns.specs.Kinds.{kindOf, layoutOf, firstBadField}
-use Rattle.columns.specs.Words.{value}
+use Rattle.digits.specs.Digits.{value}
 use Rattle.columns.proofs.Vectors.{_at_is_, approach}
 use Rattle.leg.specs.Terminator.{inOrder, terminatorAt, terminatorOf, needs, needed, among, endsAtFix, isHolding, nameOf, numberOf}
 use Rattle.leg.specs.Stages.{oddOne, missing, companionColumn, neededOf, neededColumn}

@@ -11,6 +11,7 @@ use denote.Ref.{now}
 use denote.Triple.Clauses.{Lasts, atExit}
 use borrow.Fn.Kinds.{PK, RK, Dens, resT, endedOf, Out}
 use Rattle.slices.proofs as slices
+use Rattle.digits.proofs as digits
 use Rattle.refusals.proofs as refusals
 use Rattle.columns.proofs as columns
 use Rattle.leg.proofs as leg
@@ -39,6 +40,9 @@ abbrev pub Determined : {n : ℕ} (ps : List (PK n)) (r : RK n) → Out n ps r �
 Determined ps r Post = DeterminedAs ps r (λ κs x. x) Post
 
 -- ---- slices
+
+pub unique-least : Determined slices.least.Kinds.ps slices.least.Kinds.r slices.least.Reads.Post
+unique-least κs a x y v w p q = (p ∙ sym q, refl)
 
 pub unique-byte-at : Determined slices.byte_at.Kinds.ps slices.byte_at.Kinds.r slices.byte_at.Reads.Post
 unique-byte-at κs a x y v w p q = (p ∙ sym q, refl)
@@ -72,6 +76,17 @@ unique-clear κs a x y v w p q = (refl, ap (λ (b : List ℕ). (b, tt)) (p ∙ s
 
 pub unique-line-feed : Determined slices.line_feed.Kinds.ps slices.line_feed.Kinds.r slices.line_feed.Reads.Post
 unique-line-feed κs a x y v w p q = (p ∙ sym q, refl)
+
+-- ---- digits
+
+pub unique-is-digit : Determined digits.is_digit.Kinds.ps digits.is_digit.Kinds.r digits.is_digit.Reads.Post
+unique-is-digit κs a x y v w p q = (p ∙ sym q, refl)
+
+pub unique-all-digits : Determined digits.all_digits.Kinds.ps digits.all_digits.Kinds.r digits.all_digits.Reads.Post
+unique-all-digits κs a x y v w p q = (p ∙ sym q, refl)
+
+pub unique-number-of-digits : Determined digits.number.Kinds.ps digits.number.Kinds.r digits.number.Reads.Post
+unique-number-of-digits κs a x y v w p q = (p ∙ sym q, refl)
 
 -- ---- refusals
 

@@ -11,7 +11,8 @@ use lib.ListN.{length, replicate}
 use Rattle.slices.specs.Order.{order, equal}
 use Rattle.slices.specs.Search.{firstAt}
 use Rattle.wanted.specs.declared.Wanted.{Wanted}
-use Rattle.wanted.specs.Numbers.{isDigit, numberOf, lineNumber, numbersIn, listed, wantedOf}
+use Rattle.digits.specs.Digits.{isDigit, allDigits, value}
+use Rattle.wanted.specs.Numbers.{numberOf, lineNumber, numbersIn, listed, wantedOf}
 
 codes : String → List ℕ
 codes ε = []
@@ -66,5 +67,5 @@ worked : right (
     lines 199 "7" (codes "7") reads (replicate 199 7 ++ 0 ∷ []) ∷
     []
     ) ≡ true
-unfolding isDigit numberOf lineNumber numbersIn listed wantedOf order equal firstAt codes _reads_ same right _then_ lines end
+unfolding isDigit allDigits value numberOf lineNumber numbersIn listed wantedOf order equal firstAt codes _reads_ same right _then_ lines end
 worked = refl

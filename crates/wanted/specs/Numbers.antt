@@ -1,23 +1,18 @@
 -- The numbers of a list of wanted corrections, one on each line.
 -- Assumes nothing.
-use Prim.Native.Nat.{ℕ, zero, suc, _+_, _-_, _*_}
-use mathlib.Core.Bool.{Bool, cond, _&&_}
-use mathlib.Core.List.{List, [], _∷_, _++_}
+use Prim.Native.Nat.{ℕ, zero, suc, _+_}
+use mathlib.Core.Bool.{cond, _&&_}
+use mathlib.Core.List.{List, [], _∷_}
 use lib.Dec.{eqb, leb, ltb}
-use lib.ListN.{length, take, drop, replicate}
+use lib.ListN.{length, take, drop}
+use Rattle.slices.specs.Part.{padded}
 use Rattle.slices.specs.Search.{firstAt, isLineFeed}
+use Rattle.digits.specs.Digits.{allDigits, value}
 use Rattle.wanted.specs.declared.Wanted.{Wanted}
-
-unfoldable pub isDigit : ℕ → Bool
-isDigit b = leb 48 b && leb b 57
 
 -- one to three digits are their number; anything else reads as 0
 unfoldable pub numberOf : List ℕ → ℕ
-numberOf [] = 0
-numberOf (a ∷ []) = cond (isDigit a) (a - 48) 0
-numberOf (a ∷ b ∷ []) = cond (isDigit a && isDigit b) ((a - 48) * 10 + (b - 48)) 0
-numberOf (a ∷ b ∷ c ∷ []) = cond (isDigit a && (isDigit b && isDigit c)) ((a - 48) * 100 + (b - 48) * 10 + (c - 48)) 0
-numberOf (a ∷ b ∷ c ∷ d ∷ ds) = 0
+numberOf bs = cond (leb 1 (length bs) && (leb (length bs) 3 && allDigits bs)) (value bs) 0
 
 -- how many bytes stand in front of the first line feed
 abbrev pub toLineFeed : List ℕ → ℕ
@@ -34,7 +29,7 @@ numbersIn (suc most) bs = cond (eqb (length bs) 0) [] (lineNumber bs ∷ numbers
 
 -- the numbers with zeros behind them
 unfoldable pub listed : List ℕ → Wanted
-listed ns = record { count = length ns; at = ns ++ replicate (201 - length ns) 0 }
+listed ns = record { count = length ns; at = padded 201 ns }
 
 unfoldable pub wantedOf : List ℕ → Wanted
 wantedOf text = listed (numbersIn 200 text)

@@ -1,9 +1,10 @@
 -- The invariant: the lines that are left, applied to the state so far, give the answer. Assumes nothing.
+use Rattle.slices.proofs.Cases.{is-false, is-true}
 use Rattle.applying.specs.Apply.{entriesFrom, linesApplied}
 use Rattle.routes.specs.Sources.{inUse}
 use Prim.Native.Nat.{_≤_, _-_}
 use mathlib.Core.Path.{_≡_, refl}
-use Rattle.applying.proofs.ApplyLaws.{lines-done, lines-failed, lines-go-on, not-done, is-done}
+use Rattle.applying.proofs.ApplyLaws.{lines-done, lines-failed, lines-go-on}
 use borrow.Author.Needs.{needs}
 use Rattle.applying.proofs.apply.apply_lines.Statement.{statement}
 use Rattle.applying.proofs.apply.apply_lines.Tie as tie
@@ -40,7 +41,7 @@ apply-line-requires c κs =
 returns : tie.Need-returns Inv-loop μ-loop
 returns c =
     let turn = c .before .before .before .before .before .before in
-    lines-failed _ _ _ _ _ _ _ (turn .before .loop .inv .1) (turn .loop-test .taken) _ (c .before .before .apply-line .ensures) (not-done _ (c .if1 .taken))
+    lines-failed _ _ _ _ _ _ _ (turn .before .loop .inv .1) (turn .loop-test .taken) _ (c .before .before .apply-line .ensures) (is-false _ (c .if1 .taken))
 
 add-k : tie.Need-add-k Inv-loop μ-loop
 add-k c = search needs
@@ -51,7 +52,7 @@ loop-less c = search needs
 loop-again : tie.Need-loop-again Inv-loop μ-loop
 loop-again c =
     let turn = c .before .before .before .before .before .before .before in
-    lines-go-on _ _ _ _ _ _ _ (turn .before .loop .inv .1) (turn .loop-test .taken) _ (c .before .before .before .apply-line .ensures) (is-done _ (c .before .if1 .left))
+    lines-go-on _ _ _ _ _ _ _ (turn .before .loop .inv .1) (turn .loop-test .taken) _ (c .before .before .before .apply-line .ensures) (is-true _ (c .before .if1 .left))
 
 returns-2 : tie.Need-returns-2 Inv-loop μ-loop
 returns-2 c = lines-done _ _ _ _ _ _ _ (c .before .loop .inv .1) _ (c .loop-test .left) (c .before .loop .inv .0) refl refl

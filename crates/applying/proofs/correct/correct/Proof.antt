@@ -1,7 +1,7 @@
 -- A law for each way that it ends. Assumes nothing.
+use Rattle.slices.proofs.Cases.{is-false, is-true}
 use Rattle.refusals.specs.declared.Verdict.the-variants.{Refused}
 use mathlib.Core.Path.{refl, ap}
-use Rattle.applying.proofs.ApplyLaws.{not-done, is-done}
 use Rattle.applying.proofs.CorrectLaws.{not-applied, count-kept, correction-stands, route-is-refused}
 use borrow.Author.Needs.{needs}
 use Rattle.applying.proofs.correct.correct.Statement.{statement}
@@ -14,12 +14,12 @@ does-not-apply-requires : tie.Need-does-not-apply-requires
 does-not-apply-requires c κs = search needs
 
 returns : tie.Need-returns
-returns c = not-applied _ _ _ _ _ _ (c .before .before .before .before .apply-lines .ensures) _ (not-done _ (c .before .if1 .taken)) (ap Refused (c .does-not-apply .ensures))
+returns c = not-applied _ _ _ _ _ _ (c .before .before .before .before .apply-lines .ensures) _ (is-false _ (c .before .if1 .taken)) (ap Refused (c .does-not-apply .ensures))
 
 judge-touched-requires : tie.Need-judge-touched-requires
 judge-touched-requires c κs =
     let pre = c .before .before .before .before .before .before .before .pre in
-    (count-kept _ _ (c .before .before .before .apply-lines .ensures) (is-done _ (c .if1 .left)), pre .1, pre .2, pre .3)
+    (count-kept _ _ (c .before .before .before .apply-lines .ensures) (is-true _ (c .if1 .left)), pre .1, pre .2, pre .3)
 
 enum-told : tie.Need-enum-told
 enum-told c = search needs
@@ -31,10 +31,10 @@ route-refused-requires : tie.Need-route-refused-requires
 route-refused-requires c κs = search needs
 
 returns-2 : tie.Need-returns-2
-returns-2 c = correction-stands _ _ _ _ _ _ (c .before .before .before .before .before .before .apply-lines .ensures) _ (is-done _ (c .before .before .before .if1 .left)) (c .before .before .judge-touched .ensures) (c .enum-told .given .1) refl refl
+returns-2 c = correction-stands _ _ _ _ _ _ (c .before .before .before .before .before .before .apply-lines .ensures) _ (is-true _ (c .before .before .before .if1 .left)) (c .before .before .judge-touched .ensures) (c .enum-told .given .1) refl refl
 
 returns-3 : tie.Need-returns-3
-returns-3 c = route-is-refused _ _ _ _ _ _ (c .before .before .before .before .before .before .before .before .apply-lines .ensures) _ (is-done _ (c .before .before .before .before .before .if1 .left)) (c .before .before .before .before .judge-touched .ensures) (c .before .before .verdict .given .1) (ap Refused (c .route-refused .ensures))
+returns-3 c = route-is-refused _ _ _ _ _ _ (c .before .before .before .before .before .before .before .before .apply-lines .ensures) _ (is-true _ (c .before .before .before .before .before .if1 .left)) (c .before .before .before .before .judge-touched .ensures) (c .before .before .verdict .given .1) (ap Refused (c .route-refused .ensures))
 
 pub correct-spec : {M : Type 1} → statement M
 correct-spec =

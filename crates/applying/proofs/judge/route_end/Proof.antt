@@ -1,10 +1,10 @@
 -- The invariant: what is left of the route gives its end. Assumes nothing.
+use Rattle.slices.proofs.Cases.{is-false, is-true}
 use Rattle.applying.specs.Apply.{together}
 use Rattle.routes.specs.Sources.{inUse}
 use lib.ListN.{getD, drop}
 use Prim.Native.Nat.{_+_, _-_, _≤_}
 use mathlib.Core.Path.{_≡_, refl}
-use Rattle.applying.proofs.ApplyLaws.{not-done, is-done}
 use Rattle.applying.proofs.JudgeLaws.{together-end, together-stop, together-next}
 use borrow.Author.Needs.{needs}
 use native.Mathlib.Omega.{arith}
@@ -42,7 +42,7 @@ returns : tie.Need-returns Inv-loop μ-loop
 returns c =
     let turn = c .before .before .before in
     let start = turn .before .before .before .before .before in
-    let stop = together-stop _ _ (start .args .t3) (start .pre .1) (let good = start .good .1 .1 .0 in search needs) _ _ (turn .loop-test .taken) (c .before .same-route .ensures) (not-done _ (c .if1 .taken)) in
+    let stop = together-stop _ _ (start .args .t3) (start .pre .1) (let good = start .good .1 .1 .0 in search needs) _ _ (turn .loop-test .taken) (c .before .same-route .ensures) (is-false _ (c .if1 .taken)) in
     omega (arith, turn .before .loop .inv .1, stop)
 
 add-k-2 : tie.Need-add-k-2 Inv-loop μ-loop
@@ -55,7 +55,7 @@ loop-again : tie.Need-loop-again Inv-loop μ-loop
 loop-again c =
     let turn = c .before .before .before in
     let start = turn .before .before .before .before .before in
-    let next = together-next _ _ (start .args .t3) (start .pre .1) (let good = start .good .1 .1 .0 in search needs) _ _ (turn .loop-test .taken) (c .before .same-route .ensures) (is-done _ (c .if1 .left)) in
+    let next = together-next _ _ (start .args .t3) (start .pre .1) (let good = start .good .1 .1 .0 in search needs) _ _ (turn .loop-test .taken) (c .before .same-route .ensures) (is-true _ (c .if1 .left)) in
     (omega (arith, turn .loop-test .taken), omega (arith, turn .before .loop .inv .1, next))
 
 returns-2 : tie.Need-returns-2 Inv-loop μ-loop

@@ -3,11 +3,11 @@ use mathlib.Core.Path.{_≡_, refl, _∙_}
 use Prim.Native.Nat.{_≤_, _-_}
 use lib.ListN.{length}
 use mathlib.Core.Bool.{false≢true}
+use Rattle.slices.proofs.Cases.{is-true}
 use Rattle.routes.specs.Sources.{recordsIn}
 use Rattle.routes.specs.Stages.{nothing}
 use Rattle.routes.specs.Walk.{walkFrom}
 use Rattle.routes.proofs.Turns.{walking, walking-start, walking-next, walking-end}
-use Rattle.applying.proofs.ApplyLaws.{is-done}
 use Rattle.applying.proofs.KnownLaws.{stands-behind}
 use borrow.Author.Needs.{needs}
 use native.Mathlib.Omega.{arith}
@@ -95,7 +95,7 @@ loop-again c =
       search needs,
       inv .2
           ∙ walking-next _ _ _ (inv .1) _ _ _ _ _ (omega (arith, turn .loop-test .taken, turn .before .before .before .before .before .before .before .pre .0)) (judged .before .record-at .ensures)
-          (stands-behind _ _ (turn .before .before .before .before .before .before .before .pre .2) _ (judged .before .before .before .knows .ensures) (is-done _ (judged .before .before .if1 .left)) _ _
+          (stands-behind _ _ (turn .before .before .before .before .before .before .before .pre .2) _ (judged .before .before .before .knows .ensures) (is-true _ (judged .before .before .if1 .left)) _ _
           (judged .before .record-at .ensures) (judged .judge-behind .ensures) (c .before .enum-told .given .1))
           (inv .0) refl (c .primary-after .ensures),
     )

@@ -3,7 +3,7 @@ use borrow.Author.Needs.{needs}
 use mathlib.Core.Path.{_≡_, refl, ap, _∙_}
 use Prim.Native.Nat.{ℕ, _≤_, _-_, _^_}
 use native.Mathlib.Omega.{arith}
-use Rattle.fields.proofs.Turns.{power-next, power-small}
+use Rattle.digits.proofs.Powers.{power-next, power-small}
 use Rattle.fields.proofs.numbers.power.Statement.{statement}
 use Rattle.fields.proofs.numbers.power.Tie as tie
 

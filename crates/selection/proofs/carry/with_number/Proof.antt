@@ -1,12 +1,12 @@
 -- Marked or not. Assumes nothing.
-use Rattle.applying.proofs.ApplyLaws.{not-done, is-done}
+use Rattle.slices.proofs.Cases.{is-false, is-true}
 use Rattle.selection.proofs.MemberLaws.{grown-none, grown-one}
 use borrow.Author.Needs.{needs}
 use Rattle.selection.proofs.carry.with_number.Statement.{statement}
 use Rattle.selection.proofs.carry.with_number.Tie as tie
 
 returns : tie.Need-returns
-returns c = grown-none _ (c .before .args .n) (not-done (c .before .args .marked) (c .if1 .taken))
+returns c = grown-none _ (c .before .args .n) (is-false (c .before .args .marked) (c .if1 .taken))
 
 cast-next : tie.Need-cast-next
 cast-next c = search needs
@@ -21,7 +21,7 @@ add-next : tie.Need-add-next
 add-next c = search needs
 
 returns-2 : tie.Need-returns-2
-returns-2 c = grown-one _ (c .before .args .n) (is-done (c .before .args .marked) (c .if1 .left))
+returns-2 c = grown-one _ (c .before .args .n) (is-true (c .before .args .marked) (c .if1 .left))
 
 pub with-number-spec : {M : Type 1} → statement M
 with-number-spec =

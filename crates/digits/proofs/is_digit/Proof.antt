@@ -1,8 +1,8 @@
 -- Computed. Assumes nothing.
-use Rattle.wanted.specs.Numbers.{isDigit}
+use Rattle.digits.specs.Digits.{isDigit}
 use borrow.Author.Needs.{needs}
-use Rattle.wanted.proofs.is_digit.Statement.{statement}
-use Rattle.wanted.proofs.is_digit.Tie as tie
+use Rattle.digits.proofs.is_digit.Statement.{statement}
+use Rattle.digits.proofs.is_digit.Tie as tie
 
 returns : tie.Need-returns
 unfolding isDigit

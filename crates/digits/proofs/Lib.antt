@@ -1,0 +1,3 @@
+-- The laws that other crates cite too, and one turn of each loop here.
+pub mod Powers
+mod Turns
