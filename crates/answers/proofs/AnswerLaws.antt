@@ -1,0 +1,163 @@
+-- Laws of the answers: what the code has of a pick, of a new file and of a log's verdict is what the definitions say.
+-- Assumes nothing.
+use mathlib.Core.Path.{_≡_, refl, sym, ap, subst, _∙_}
+use mathlib.Core.Bool.{Bool, true, false, cond}
+use mathlib.Core.List.{List, [], _∷_, _++_, map}
+use Prim.Native.Nat.{ℕ, _+_, _-_, _*_, _≤_, _<_}
+use native.Mathlib.Omega.{arith}
+use lib.Dec.{leb, ltb}
+use lib.ListN.{length, take, replicate, length-append, length-map}
+use lib.Seq.{take-at, length-take-le}
+use borrow.Author.Tests.{le-leb, ltb-false}
+use Rattle.slices.proofs.Cases.{split}
+use Rattle.columns.specs.Patterns.{codes}
+use Rattle.refusals.specs.declared.Refusal.{Refusal}
+use Rattle.refusals.specs.declared.Verdict.{Verdict}
+use Rattle.refusals.specs.declared.Verdict.the-variants.{Accepted, Refused}
+use Rattle.wanted.specs.Numbers.{numbersIn, listed, wantedOf}
+use Rattle.wanted.specs.declared.Wanted.{Wanted}
+use Rattle.routes.specs.Legal.{lines}
+use Rattle.routes.specs.Sources.{recordAt, records, sourcesTo, sourcesOf}
+use Rattle.routes.specs.declared.Sources.{Sources}
+use Rattle.routes.proofs.Lines.{length-lines}
+use Rattle.corrections.specs.Reading.{Reading, refused, said, readLog, indexOf}
+use Rattle.corrections.specs.declared.Index.{Index}
+use Rattle.applying.specs.Bounds.{padded, sourcesFor}
+use Rattle.selection.specs.Pick.{Pick, refusedBy, picked, logVerdict, pickOf, filePick, newRecords, newBytes, pickedAs}
+use Rattle.selection.specs.declared.Picked.{Picked}
+use Rattle.selection.proofs.Demand.{picked-demand}
+use Rattle.answers.specs.Answers.{
+  noLine,
+  countLine,
+  takeLines,
+  pickText,
+  fileText,
+  verdictText,
+  correctionCount,
+  checkAnswer,
+  pickAnswer,
+  newfileAnswer,
+  held,
+  pickedText,
+}
+
+-- ---- the wanted numbers
+
+module _ (text : List ℕ) {w : Wanted} (e : w ≡ wantedOf text) where
+  pub wanted-within : w .count ≤ length (w .at)
+  unfolding wantedOf listed
+  wanted-within = rw e (omega (arith, length-append (numbersIn 200 text) (replicate (201 - length (numbersIn 200 text)) 0)))
+
+  pub wanted-numbers : take (w .count) (w .at) ≡ numbersIn 200 text
+  unfolding wantedOf listed
+  wanted-numbers = rw e (take-at (numbersIn 200 text) (replicate (201 - length (numbersIn 200 text)) 0) (length (numbersIn 200 text)) refl)
+
+  pub wanted-counted : w .count ≡ length (take (w .count) (w .at))
+  wanted-counted = sym (length-take-le (w .count) (w .at) wanted-within)
+
+-- ---- a pick
+
+picked-text : (x : Pick) → pickedText (pickedAs x) ≡ pickText x
+unfolding pickedText pickedAs pickText sourcesFor
+picked-text (refusedBy r) = refl
+picked-text (picked ns xs) =
+    ap (λ (l : List ℕ). countLine (codes "pick") (length ns) (length xs) ++ takeLines l) (take-at ns (replicate (200 - length ns) 0) (length ns) refl)
+
+module _ (f l want ws : List ℕ) (q : ws ≡ numbersIn 200 want) {p : Picked} (e : p ≡ pickedAs (pickOf f l ws)) where
+  pub taken-within : p .count ≤ 200
+  unfolding pickedAs
+  taken-within = subst (λ (x : Picked). x .count ≤ 200) (sym e) (by (pickOf f l ws) refl)
+    where
+      by : (x : Pick) → pickOf f l ws ≡ x → pickedAs x .count ≤ 200
+      by (refusedBy r) z = omega arith
+      by (picked ns xs) z = picked-demand f l ws ns xs z .takenAtMost
+
+  pub pick-text : pickedText p ≡ pickAnswer f l want
+  unfolding pickAnswer
+  pick-text = ap pickedText e ∙ picked-text (pickOf f l ws) ∙ ap (λ (ns : List ℕ). pickText (pickOf f l ns)) q
+
+-- ---- a new file
+
+accepted-not-refused : {r : Refusal} → Refused r ≡ Accepted → ⊥
+accepted-not-refused e = let z : _≡_ {A = ℕ} 0 1 = cc in absurd (omega arith)
+
+same-refusal : {r s : Refusal} → Refused r ≡ Refused s → r ≡ s
+same-refusal e = cc
+
+module _ (f l want ws : List ℕ) (n : ℕ) (q : ws ≡ numbersIn 200 want) {p : Picked} {out : List ℕ}
+    (e : (p ≡ pickedAs (filePick f l n ws)) × (out ≡ padded n (newBytes f l (filePick f l n ws)))) where
+  same-answer : fileText f l (filePick f l n ws) ≡ newfileAnswer f l n want
+  unfolding newfileAnswer
+  same-answer = ap (λ (ns : List ℕ). fileText f l (filePick f l n ns)) q
+
+  -- what was picked, where a file of so many bytes has room
+  lent-picked : (ns xs : List ℕ) → filePick f l n ws ≡ picked ns xs → (63840 ≤ n) × (pickOf f l ws ≡ picked ns xs)
+  unfolding filePick
+  lent-picked ns xs z = split (ltb n 63840) (λ t. absurd (not-picked (rw t at z))) (λ t. (ltb-false n 63840 t, rw t at z))
+    where
+      not-picked : {r : Refusal} → refusedBy r ≡ picked ns xs → ⊥
+      not-picked h = let k : _≡_ {A = ℕ} 0 1 = cc in absurd (omega arith)
+
+  pub file-few : p .records .count ≤ 480
+  unfolding pickedAs sourcesFor
+  file-few = subst (λ (x : Picked). x .records .count ≤ 480) (sym (e .0)) (by (filePick f l n ws) refl)
+    where
+      by : (x : Pick) → filePick f l n ws ≡ x → pickedAs x .records .count ≤ 480
+      by (refusedBy r) z = omega arith
+      by (picked ns xs) z = picked-demand f l ws ns xs (lent-picked ns xs z .1) .atMost
+
+  pub file-answered : p .verdict ≡ Accepted
+      → (p .records .count * 133 ≡ length (held n (newfileAnswer f l n want))) × (out ≡ padded n (held n (newfileAnswer f l n want)))
+  unfolding pickedAs fileText held sourcesFor newBytes newRecords
+  file-answered a =
+      subst (λ (t : List ℕ). (p .records .count * 133 ≡ length (held n t)) × (out ≡ padded n (held n t))) same-answer
+      (by (filePick f l n ws) refl (e .0) (e .1))
+    where
+      by : (x : Pick) → filePick f l n ws ≡ x → p ≡ pickedAs x → out ≡ padded n (newBytes f l x)
+          → (p .records .count * 133 ≡ length (held n (fileText f l x))) × (out ≡ padded n (held n (fileText f l x)))
+      by (refusedBy r) z c o = absurd (accepted-not-refused (sym (ap (λ (x : Picked). x .verdict) c) ∙ a))
+      by (picked ns xs) z c o =
+          let s = lent-picked ns xs z in
+          let d = picked-demand f l ws ns xs (s .1) in
+          let k : length (newBytes f l (picked ns xs)) ≡ length xs * 133 = omega (arith, length-lines (map (recordAt f l) xs) (d .wide), length-map xs (recordAt f l)) in
+          let t : leb (length (newBytes f l (picked ns xs))) n ≡ true = le-leb (length (newBytes f l (picked ns xs))) n (omega (arith, k, d .atMost, s .0)) in
+          rw t (ap (λ (x : Picked). x .records .count * 133) c ∙ sym k, o)
+
+  -- on a refusal the buffer is clear for its line
+  module _ {r : Refusal} (a : p .verdict ≡ Refused r) where
+    pub refused-text : noLine r ≡ newfileAnswer f l n want
+    unfolding pickedAs fileText
+    refused-text = by (filePick f l n ws) (e .0) ∙ same-answer
+      where
+        by : (x : Pick) → p ≡ pickedAs x → noLine r ≡ fileText f l x
+        by (refusedBy s) c = ap noLine (same-refusal (sym a ∙ ap (λ (x : Picked). x .verdict) c))
+        by (picked ns xs) c = absurd (accepted-not-refused (sym a ∙ ap (λ (x : Picked). x .verdict) c))
+
+    pub refused-clear : out ≡ replicate n 0
+    unfolding pickedAs newBytes newRecords lines
+    refused-clear = by (filePick f l n ws) (e .0) (e .1)
+      where
+        by : (x : Pick) → p ≡ pickedAs x → out ≡ padded n (newBytes f l x) → out ≡ replicate n 0
+        by (refusedBy s) c o = let z : n - 0 ≡ n = omega arith in o ∙ rw z
+        by (picked ns xs) c o = absurd (accepted-not-refused (sym a ∙ ap (λ (x : Picked). x .verdict) c))
+
+-- ---- a log
+
+count-said : (r : Reading) → indexOf r .corrections ≡ correctionCount r
+unfolding indexOf
+count-said (refused r) = refl
+count-said (said n es) = refl
+
+module _ (f l : List ℕ) {v : Verdict} (e : v ≡ logVerdict f l) where
+  pub check-accepted : v ≡ Accepted → {s : Sources} {i : Index} → s ≡ sourcesOf f → i ≡ indexOf (readLog l (s .count))
+      → countLine (111 ∷ 107 ∷ []) (s .count) (i .corrections) ≡ checkAnswer f l
+  unfolding checkAnswer sourcesOf sourcesTo codes
+  check-accepted a {s} {i} p q =
+      let c : s .count ≡ length (records f) = ap (λ (x : Sources). x .count) p in
+      let n : i .corrections ≡ correctionCount (readLog l (length (records f))) =
+      ap (λ (x : Index). x .corrections) q ∙ count-said (readLog l (s .count)) ∙ ap (λ (k : ℕ). correctionCount (readLog l k)) c in
+      rw (sym e ∙ a, c, n)
+
+  pub check-refused : {r : Refusal} → v ≡ Refused r → noLine r ≡ checkAnswer f l
+  unfolding checkAnswer
+  check-refused a = rw (sym e ∙ a)

@@ -1,0 +1,69 @@
+-- How long the answers are: what stands is never too long for the buffers that the programs lend.
+-- Assumes nothing.
+use mathlib.Core.Path.{_≡_, refl, ap, subst, _∙_}
+use mathlib.Core.Bool.{true}
+use mathlib.Core.List.{List, [], _∷_, _++_}
+use Prim.Native.Nat.{ℕ, zero, suc, _+_, _*_, _≤_, _<_}
+use native.Mathlib.Omega.{arith}
+use lib.ListN.{length, length-append}
+use borrow.Author.Tests.{le-leb}
+use Rattle.slices.proofs.Cases.{split}
+use Rattle.columns.specs.Patterns.{codes}
+use Rattle.history.specs.Sets.{Numbers}
+use Rattle.routes.specs.Places.{Every}
+use Rattle.selection.specs.Pick.{membersFrom, picked, pickOf}
+use Rattle.selection.proofs.Demand.{picked-demand}
+use Rattle.answers.specs.Answers.{countLine, takeLine, takeLines, pickText, held}
+use Rattle.answers.specs.Decimal.{tabbed}
+use Rattle.answers.proofs.Digits.{length-below-1000}
+
+length-tabbed : (n : ℕ) → n < 1000 → length (tabbed n) ≤ 4
+unfolding tabbed
+length-tabbed n h = omega (arith, length-below-1000 n h)
+
+length-counts : (word : List ℕ) (a b : ℕ) → a < 1000 → b < 1000 → length (countLine word a b) ≤ length word + 9
+unfolding countLine
+length-counts word a b h k =
+    omega
+    (arith, length-append (word ++ tabbed a ++ tabbed b) (10 ∷ []), length-append (word ++ tabbed a) (tabbed b), length-append word (tabbed a), length-tabbed a h, length-tabbed b k)
+
+length-take-line : (n : ℕ) → n < 1000 → length (takeLine n) ≤ 9
+unfolding takeLine codes
+length-take-line n h =
+    omega (arith, length-append (116 ∷ 97 ∷ 107 ∷ 101 ∷ tabbed n) (10 ∷ []), length-tabbed n h)
+
+abbrev Below : ℕ → ℕ → Type 0
+Below most n = n < most
+
+length-take-lines : (ns : List ℕ) → Every (Below 1000) ns → length (takeLines ns) ≤ length ns * 9
+unfolding takeLines
+length-take-lines [] e = omega arith
+length-take-lines (n ∷ ns) e =
+    omega (arith, length-append (takeLine n) (takeLines ns), length-take-line n (e .0), length-take-lines ns (e .1))
+
+members-below : (T : Numbers) (n m most : ℕ) → n + m ≤ most → Every (Below most) (membersFrom T n m)
+unfolding membersFrom
+members-below T n zero most h = tt
+members-below T n (suc m) most h =
+    let rest = members-below T (n + 1) m most (omega arith) in
+    split (T n) (λ t. rw t (omega arith, rest)) (λ t. rw t rest)
+
+-- A pick that stands is written in at most 1,813 bytes: 13, and 9 for each of 200 corrections.
+pub pick-length : (frozen log wanted taken sources : List ℕ) → pickOf frozen log wanted ≡ picked taken sources → length (pickText (picked taken sources)) ≤ 1813
+unfolding pickText codes
+pick-length f l ws ns xs e =
+    let d = picked-demand f l ws ns xs e in
+    let b : Every (Below 1000) ns = rw (d .numbers) (members-below _ 1 (length (d .legal .corrections)) 1000 (omega (arith, d .legal .few))) in
+    omega (
+      arith,
+      length-append (countLine (112 ∷ 105 ∷ 99 ∷ 107 ∷ []) (length ns) (length xs)) (takeLines ns),
+      length-counts (112 ∷ 105 ∷ 99 ∷ 107 ∷ []) (length ns) (length xs) (omega (arith, d .takenAtMost)) (omega (arith, d .atMost)),
+      length-take-lines ns b,
+      d .takenAtMost,
+    )
+
+-- So it is written whole.
+pub pick-held : (frozen log wanted taken sources : List ℕ) → pickOf frozen log wanted ≡ picked taken sources
+    → held 1813 (pickText (picked taken sources)) ≡ pickText (picked taken sources)
+unfolding held
+pick-held f l ws ns xs e = rw (le-leb (length (pickText (picked ns xs))) 1813 (pick-length f l ws ns xs e))

@@ -1,0 +1,77 @@
+-- Laws of what is written: one piece behind another, a word, a digit; and what is left of an answer in the buffer.
+-- Assumes nothing.
+use mathlib.Core.Path.{_≡_, refl, sym, ap, ap₂, _∙_}
+use mathlib.Core.Bool.{Bool, true, false, cond}
+use mathlib.Core.List.{List, [], _∷_, _++_}
+use Prim.Native.Nat.{ℕ, suc, _+_, _-_, _/_, _%_, _≤_, _<_}
+use native.Mathlib.Omega.{arith}
+use lib.Dec.{leb}
+use lib.ListN.{length, set, replicate, length-append, length-replicate}
+use lib.Seq.{sets, length-sets}
+use borrow.Author.Tests.{leb-true, leb-false}
+use Rattle.slices.specs.Part.{part}
+use Rattle.slices.proofs.Cases.{split}
+use Rattle.slices.proofs.PartLaws.{part-all}
+use Rattle.slices.proofs.WriteLaws.{sets-append, stored-front}
+use Rattle.applying.specs.Bounds.{padded}
+use Rattle.answers.specs.Answers.{held}
+use Rattle.answers.specs.Decimal.{decimal, tabbed}
+use Rattle.answers.specs.Written.{Wrote}
+use Rattle.answers.proofs.Digits.{Short, decimal-one, decimal-more}
+
+-- ---- pieces
+
+pub wrote-nothing : (a : List ℕ) (at : ℕ) → Wrote a a at [] at
+wrote-nothing a at = record { stops = omega arith; holds = refl }
+
+pub wrote-length : {a b xs : List ℕ} {at e : ℕ} → Wrote a b at xs e → length b ≡ length a
+wrote-length {a} {b} {xs} {at} w = ap length (w .holds) ∙ length-sets a at xs
+
+-- one piece behind another
+pub wrote-then : {a b c xs ys : List ℕ} {at m e : ℕ} → Wrote a b at xs m → Wrote b c m ys e → Wrote a c at (xs ++ ys) e
+wrote-then {a} {b} {c} {xs} {ys} {at} {m} {e} v w = record {
+  stops = omega (arith, v .stops, w .stops, length-append xs ys);
+  holds = w .holds ∙ ap₂ (λ (l : List ℕ) (i : ℕ). sets l i ys) (v .holds) (v .stops) ∙ sym (sets-append xs ys a at);
+}
+
+pub wrote-byte : {a b : List ℕ} {at x : ℕ} → b ≡ set a (at + 0) x → Wrote a b at (x ∷ []) (at + 1)
+wrote-byte {a} {b} {at} {x} e = record { stops = refl; holds = let z : at + 0 ≡ at = omega arith in e ∙ ap (λ (i : ℕ). set a i x) z }
+
+pub wrote-word : {a b : List ℕ} (word : List ℕ) {at : ℕ} → b ≡ sets a at (part (length word) 0 word) → Wrote a b at word (at + length word)
+wrote-word {a} word {at} e = record { stops = refl; holds = e ∙ ap (sets a at) (part-all word) }
+
+-- ---- numbers
+
+pub wrote-digit : {a b : List ℕ} {at n : ℕ} → n < 10 → b ≡ set a (at + 0) (n + 48) → Wrote a b at (decimal n) (at + 1)
+wrote-digit {n = n} h e = rw (decimal-one n h) (wrote-byte e)
+
+pub wrote-digits : {a b c : List ℕ} {at end n : ℕ} → 10 ≤ n → Short n → Wrote a b at (decimal (n / 10)) end → c ≡ set b (end + 0) (n % 10 + 48)
+    → Wrote a c at (decimal n) (end + 1)
+wrote-digits {n = n} h s w e = rw (decimal-more n h s) (wrote-then w (wrote-byte e))
+
+-- fewer digits in front of the last
+pub room-in-front : (at n : ℕ) → 10 ≤ n → Short n → at + length (decimal n) ≤ 20000 → at + length (decimal (n / 10)) < 20000
+room-in-front at n h s r = omega (arith, ap length (decimal-more n h s), length-append (decimal (n / 10)) ((n % 10 + 48) ∷ []))
+
+pub wrote-tabbed : {a b c : List ℕ} {at end : ℕ} (n : ℕ) → b ≡ set a (at + 0) 9 → Wrote b c (at + 1) (decimal n) end → Wrote a c at (tabbed n) end
+unfolding tabbed
+wrote-tabbed n e w = wrote-then (wrote-byte e) w
+
+-- ---- what is left
+
+-- an answer among zeros, and nothing where it has no room
+pub answered : (n : ℕ) {bytes clean mid out : List ℕ} {end r : ℕ} → clean ≡ replicate n 0 → Wrote clean mid 0 bytes end
+    → (r ≡ cond (leb end (length mid)) end 0) × (out ≡ cond (leb end (length mid)) mid (replicate (length mid) 0))
+    → (r ≡ length (held n bytes)) × (out ≡ padded n (held n bytes))
+unfolding held
+answered n {bytes} {clean} {mid} {out} {end} {r} z w (p, q) =
+    let l : length mid ≡ n = wrote-length w ∙ ap length z ∙ length-replicate n 0 in
+    let e : end ≡ length bytes = w .stops ∙ (let k : 0 + length bytes ≡ length bytes = omega arith in k) in
+    split (leb (length bytes) n)
+    (λ t.
+    let u : leb end (length mid) ≡ true = rw (e, l) t in
+    rw t (p ∙ rw u e, q ∙ rw u (w .holds ∙ ap (λ (x : List ℕ). sets x 0 bytes) z ∙ stored-front 0 n bytes (leb-true (length bytes) n t))))
+    (λ t.
+    let u : leb end (length mid) ≡ false = rw (e, l) t in
+    let k : n - 0 ≡ n = omega arith in
+    rw (t, k) (p ∙ rw u, q ∙ rw (u, l)))

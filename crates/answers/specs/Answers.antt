@@ -1,0 +1,81 @@
+-- What the programs print, byte for byte.
+-- Assumes nothing.
+use Prim.Native.Nat.{ℕ}
+use mathlib.Core.Bool.{cond}
+use mathlib.Core.List.{List, [], _∷_, _++_}
+use lib.Dec.{leb}
+use lib.ListN.{length, take}
+use Rattle.columns.specs.Patterns.{codes}
+use Rattle.refusals.specs.declared.Refusal.{Refusal}
+use Rattle.refusals.specs.declared.Verdict.{Verdict}
+use Rattle.refusals.specs.declared.Verdict.the-variants.{Accepted, Refused}
+use Rattle.corrections.specs.Reading.{Reading, refused, said, readLog}
+use Rattle.routes.specs.Sources.{records}
+use Rattle.wanted.specs.Numbers.{numbersIn}
+use Rattle.selection.specs.Pick.{Pick, refusedBy, picked, logVerdict, pickOf, filePick, newBytes}
+use Rattle.selection.specs.declared.Picked.{Picked}
+use Rattle.answers.specs.Decimal.{tabbed}
+
+-- ---- lines
+
+-- "A refusal prints one line: `no`, number, place, column."
+unfoldable pub noLine : Refusal → List ℕ
+noLine r = codes "no" ++ tabbed (r .number) ++ tabbed (r .place) ++ tabbed (r .column) ++ 10 ∷ []
+
+-- a word and two counts
+unfoldable pub countLine : (word : List ℕ) → ℕ → ℕ → List ℕ
+countLine word a b = word ++ tabbed a ++ tabbed b ++ 10 ∷ []
+
+-- "then a line for each one taken"
+unfoldable pub takeLine : ℕ → List ℕ
+takeLine n = codes "take" ++ tabbed n ++ 10 ∷ []
+
+unfoldable pub takeLines : List ℕ → List ℕ
+takeLines [] = []
+takeLines (n ∷ ns) = takeLine n ++ takeLines ns
+
+-- ---- the programs
+
+-- "word, corrections taken, records in the new file; then a line for each one taken"
+unfoldable pub pickText : Pick → List ℕ
+pickText (refusedBy r) = noLine r
+pickText (picked taken sources) = countLine (codes "pick") (length taken) (length sources) ++ takeLines taken
+
+-- "prints the new file alone or the same `no` line"
+unfoldable pub fileText : (frozen log : List ℕ) → Pick → List ℕ
+fileText frozen log (refusedBy r) = noLine r
+fileText frozen log (picked taken sources) = newBytes frozen log (picked taken sources)
+
+abbrev pub verdictText : Verdict → (accepted : List ℕ) → List ℕ
+verdictText Accepted bytes = bytes
+verdictText (Refused r) bytes = noLine r
+
+-- how many corrections a log has
+abbrev pub correctionCount : Reading → ℕ
+correctionCount (refused r) = 0
+correctionCount (said n es) = n
+
+-- a log and its frozen file, or a frozen file alone, whose log is empty: the frozen records and the log's corrections
+unfoldable pub checkAnswer : (frozen log : List ℕ) → List ℕ
+checkAnswer frozen log =
+    verdictText (logVerdict frozen log)
+    (countLine (codes "ok") (length (records frozen)) (correctionCount (readLog log (length (records frozen)))))
+
+unfoldable pub pickAnswer : (frozen log want : List ℕ) → List ℕ
+pickAnswer frozen log want = pickText (pickOf frozen log (numbersIn 200 want))
+
+-- where so many bytes are lent for the file
+unfoldable pub newfileAnswer : (frozen log : List ℕ) (lent : ℕ) (want : List ℕ) → List ℕ
+newfileAnswer frozen log lent want = fileText frozen log (filePick frozen log lent (numbersIn 200 want))
+
+-- an answer that a buffer has no room for is not written at all
+unfoldable pub held : (room : ℕ) → List ℕ → List ℕ
+held room bytes = cond (leb (length bytes) room) bytes []
+
+-- ---- as the code has it
+
+-- the text of a pick's answer
+unfoldable pub pickedText : Picked → List ℕ
+pickedText p =
+    verdictText (p .verdict)
+    (countLine (codes "pick") (p .count) (p .records .count) ++ takeLines (take (p .count) (p .taken)))

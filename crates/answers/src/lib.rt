@@ -1,0 +1,73 @@
+// The exact bytes that the programs print: what a pick comes to, the new file, and whether a log stands.
+// Assumes nothing of the caller: any frozen file, any log, any list of wanted numbers, any buffer.
+mod pieces;
+mod texts;
+
+ghost use mathlib.Core.Path.{_≡_};
+ghost use lib.ListN.{length};
+ghost use Rattle.applying.specs.Bounds.{padded};
+ghost use Rattle.answers.specs.Answers.{pickAnswer, newfileAnswer, checkAnswer, held};
+use pieces::kept;
+use refusals::Verdict;
+use texts::put_counts;
+use texts::put_no;
+use texts::put_picked;
+
+// No answer of `pick_answer` or `check_answer` is longer: 13 bytes of counts, and 9 for each of 200 corrections.
+pub const LONGEST_LINES: usize = 1813;
+
+// No new file is longer; what is shorter is too short for one.
+pub const LONGEST_FILE: usize = 63840;
+
+// What `pick` prints: the corrections taken, or the refusal. Where the buffer has no room for it nothing is written; zeros past it.
+pub fn pick_answer<'a>(frozen: &'a [u8], log: &'a [u8], want: &[u8], out: &mut [u8]) -> usize
+    ensures { λ r. ⌜ (r ≡ length (held (length (now (out .entry))) (pickAnswer (now (frozen .entry)) (now (log .entry)) (now (want .entry))))) × (now (out .exit) ≡ padded (length (now (out .entry))) (held (length (now (out .entry))) (pickAnswer (now (frozen .entry)) (now (log .entry)) (now (want .entry))))) ⌝ }
+{
+    let wanted = wanted::numbers(want);
+    let count = wanted.count;
+    let numbers = wanted.at;
+    let picked = selection::pick(frozen, log, &numbers[..count]);
+    slices::clear(&mut *out);
+    let end = put_picked(picked, &mut *out);
+    kept(&mut *out, end)
+}
+
+// What `newfile` prints: the new file, or the refusal, which is 14 where the buffer is shorter than the longest file.
+pub fn newfile_answer<'a>(frozen: &'a [u8], log: &'a [u8], want: &[u8], out: &mut [u8]) -> usize
+    ensures { λ r. ⌜ (r ≡ length (held (length (now (out .entry))) (newfileAnswer (now (frozen .entry)) (now (log .entry)) (length (now (out .entry))) (now (want .entry))))) × (now (out .exit) ≡ padded (length (now (out .entry))) (held (length (now (out .entry))) (newfileAnswer (now (frozen .entry)) (now (log .entry)) (length (now (out .entry))) (now (want .entry))))) ⌝ }
+{
+    let wanted = wanted::numbers(want);
+    let count = wanted.count;
+    let numbers = wanted.at;
+    let picked = selection::new_file(frozen, log, &numbers[..count], &mut *out);
+    let verdict = picked.verdict;
+    let records = picked.records;
+    match verdict {
+        Verdict::Accepted => records.count * 133,
+        Verdict::Refused(r) => {
+            let end = put_no(r, &mut *out);
+            kept(&mut *out, end)
+        }
+    }
+}
+
+// What `check` prints: how many frozen records and how many corrections there are, or the refusal.
+pub fn check_answer<'a>(frozen: &'a [u8], log: &'a [u8], out: &mut [u8]) -> usize
+    ensures { λ r. ⌜ (r ≡ length (held (length (now (out .entry))) (checkAnswer (now (frozen .entry)) (now (log .entry))))) × (now (out .exit) ≡ padded (length (now (out .entry))) (held (length (now (out .entry))) (checkAnswer (now (frozen .entry)) (now (log .entry))))) ⌝ }
+{
+    let verdict = selection::check_log(frozen, log);
+    slices::clear(&mut *out);
+    match verdict {
+        Verdict::Accepted => {
+            let sources = routes::sources_of(frozen);
+            let records = sources.count;
+            let index = corrections::index_of(log, records);
+            let end = put_counts(b"ok", records, index.corrections, &mut *out);
+            kept(&mut *out, end)
+        }
+        Verdict::Refused(r) => {
+            let end = put_no(r, &mut *out);
+            kept(&mut *out, end)
+        }
+    }
+}

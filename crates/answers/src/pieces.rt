@@ -1,0 +1,53 @@
+// The pieces that lines are put together from, each written behind the one before it; what is past a buffer's end is dropped.
+// Assumes of its callers, all in this crate, offsets that are far from the last number there is.
+ghost use mathlib.Core.Path.{_≡_};
+ghost use mathlib.Core.Bool.{cond};
+ghost use Prim.Native.Nat.{_+_, _≤_};
+ghost use lib.Dec.{leb};
+ghost use lib.ListN.{length, replicate};
+ghost use Rattle.answers.specs.Decimal.{decimal, tabbed};
+ghost use Rattle.answers.specs.Written.{Wrote};
+
+// Writes a word, and answers the offset behind it.
+pub(crate) fn put_word(word: &[u8], out: &mut [u8], at: usize) -> usize
+    requires { ⌜ (at ≤ 10000) × (length (now word) ≤ 10) ⌝ }
+    ensures { λ r. ⌜ Wrote (now (out .entry)) (now (out .exit)) at (now (word .entry)) r ⌝ }
+{
+    let n = word.len();
+    slices::copy(word, 0, out, at, n);
+    at + n
+}
+
+// Writes a number in digits: those in front of the last by the same means, then the last.
+fn put_decimal(n: usize, out: &mut [u8], at: usize) -> usize
+    requires { ⌜ at + length (decimal n) ≤ 20000 ⌝ }
+    ensures { λ r. ⌜ Wrote (now (out .entry)) (now (out .exit)) at (decimal n) r ⌝ }
+{
+    if n < 10 {
+        slices::put_after(out, at, 0, n as u8 + 48);
+        return at + 1;
+    }
+    let end = put_decimal(n / 10, out, at);
+    slices::put_after(out, end, 0, (n % 10) as u8 + 48);
+    end + 1
+}
+
+// Writes a tab and a number.
+pub(crate) fn put_tabbed(n: usize, out: &mut [u8], at: usize) -> usize
+    requires { ⌜ at ≤ 10000 ⌝ }
+    ensures { λ r. ⌜ Wrote (now (out .entry)) (now (out .exit)) at (tabbed n) r × (r ≤ at + 21) ⌝ }
+{
+    slices::put_after(out, at, 0, b'\t');
+    put_decimal(n, out, at + 1)
+}
+
+// Leaves what was written up to an offset where the buffer had room for it, and otherwise nothing; answers how many bytes are left.
+pub(crate) fn kept(out: &mut [u8], end: usize) -> usize
+    ensures { λ r. ⌜ (r ≡ cond (leb end (length (now (out .entry)))) end 0) × (now (out .exit) ≡ cond (leb end (length (now (out .entry)))) (now (out .entry)) (replicate (length (now (out .entry))) 0)) ⌝ }
+{
+    if out.len() < end {
+        slices::clear(out);
+        return 0;
+    }
+    end
+}
