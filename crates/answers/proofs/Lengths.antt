@@ -1,16 +1,18 @@
 -- How long the answers are: what stands is never too long for the buffers that the programs lend.
 -- Assumes nothing.
-use mathlib.Core.Path.{_≡_, refl, ap, subst, _∙_}
-use mathlib.Core.Bool.{true}
+use mathlib.Core.Path.{_≡_, sym, ap}
 use mathlib.Core.List.{List, [], _∷_, _++_}
-use Prim.Native.Nat.{ℕ, zero, suc, _+_, _*_, _≤_, _<_}
+use Prim.Native.Nat.{ℕ, zero, suc, _+_, _-_, _*_, _≤_, _<_}
 use native.Mathlib.Omega.{arith}
-use lib.ListN.{length, length-append}
-use borrow.Author.Tests.{le-leb}
+use lib.ListN.{length, take, replicate, length-append}
+use lib.Seq.{length-take-le}
+use lib.Dec.{leb}
+use borrow.Author.Tests.{le-leb, leb-true}
 use Rattle.slices.proofs.Cases.{split}
 use Rattle.columns.specs.Patterns.{codes}
 use Rattle.history.specs.Sets.{Numbers}
 use Rattle.routes.specs.Places.{Every}
+use Rattle.applying.specs.Bounds.{padded}
 use Rattle.selection.specs.Pick.{membersFrom, picked, pickOf}
 use Rattle.selection.proofs.Demand.{picked-demand}
 use Rattle.answers.specs.Answers.{countLine, takeLine, takeLines, pickText, held}
@@ -67,3 +69,17 @@ pub pick-held : (frozen log wanted taken sources : List ℕ) → pickOf frozen l
     → held 1813 (pickText (picked taken sources)) ≡ pickText (picked taken sources)
 unfolding held
 pick-held f l ws ns xs e = rw (le-leb (length (pickText (picked ns xs))) 1813 (pick-length f l ws ns xs e))
+
+-- What is left in a buffer is no longer than the buffer, so an answer's count counts bytes in front of it.
+held-within : (room : ℕ) (bytes : List ℕ) → length (held room bytes) ≤ room
+unfolding held
+held-within room bytes =
+    split (leb (length bytes) room) (λ t. rw t (leb-true (length bytes) room t)) (λ t. rw t (omega arith))
+
+module _ (room : ℕ) (bytes : List ℕ) {out : List ℕ} {n : ℕ} (e : (n ≡ length (held room bytes)) × (out ≡ padded room (held room bytes))) where
+  pub answer-within : n ≤ length out
+  answer-within =
+      omega (arith, e .0, ap length (e .1), held-within room bytes, length-append (held room bytes) (replicate (room - length (held room bytes)) 0))
+
+  pub answer-counted : n ≡ length (take n out)
+  answer-counted = sym (length-take-le n out answer-within)
