@@ -1,9 +1,9 @@
 -- Laws of the answers: what the code has of a pick, of a new file and of a log's verdict is what the definitions say.
 -- Assumes nothing.
 use mathlib.Core.Path.{_≡_, refl, sym, ap, subst, _∙_}
-use mathlib.Core.Bool.{Bool, true, false, cond}
+use mathlib.Core.Bool.{true}
 use mathlib.Core.List.{List, [], _∷_, _++_, map}
-use Prim.Native.Nat.{ℕ, _+_, _-_, _*_, _≤_, _<_}
+use Prim.Native.Nat.{ℕ, _+_, _-_, _*_, _≤_}
 use native.Mathlib.Omega.{arith}
 use lib.Dec.{leb, ltb}
 use lib.ListN.{length, take, replicate, length-append, length-map}
@@ -26,20 +26,7 @@ use Rattle.applying.specs.Bounds.{padded, sourcesFor}
 use Rattle.selection.specs.Pick.{Pick, refusedBy, picked, logVerdict, pickOf, filePick, newRecords, newBytes, pickedAs}
 use Rattle.selection.specs.declared.Picked.{Picked}
 use Rattle.selection.proofs.Demand.{picked-demand}
-use Rattle.answers.specs.Answers.{
-  noLine,
-  countLine,
-  takeLines,
-  pickText,
-  fileText,
-  verdictText,
-  correctionCount,
-  checkAnswer,
-  pickAnswer,
-  newfileAnswer,
-  held,
-  pickedText,
-}
+use Rattle.answers.specs.Answers.{noLine, countLine, takeLines, pickText, fileText, correctionCount, checkAnswer, pickAnswer, newfileAnswer, held, pickedText}
 
 -- ---- the wanted numbers
 

@@ -11,13 +11,14 @@ use borrow.Author.Tests.{le-leb, leb-true}
 use Rattle.slices.proofs.Cases.{split}
 use Rattle.columns.specs.Patterns.{codes}
 use Rattle.history.specs.Sets.{Numbers}
+use Rattle.refusals.specs.declared.Refusal.{Refusal}
 use Rattle.routes.specs.Places.{Every}
 use Rattle.applying.specs.Bounds.{padded}
 use Rattle.selection.specs.Pick.{membersFrom, picked, pickOf}
 use Rattle.selection.proofs.Demand.{picked-demand}
-use Rattle.answers.specs.Answers.{countLine, takeLine, takeLines, pickText, held}
-use Rattle.answers.specs.Decimal.{tabbed}
-use Rattle.answers.proofs.Digits.{length-below-1000}
+use Rattle.answers.specs.Answers.{noLine, countLine, takeLine, takeLines, pickText, held}
+use Rattle.answers.specs.Decimal.{decimal, tabbed}
+use Rattle.answers.proofs.Digits.{Short, length-decimal, length-below-1000}
 
 length-tabbed : (n : ℕ) → n < 1000 → length (tabbed n) ≤ 4
 unfolding tabbed
@@ -28,6 +29,20 @@ unfolding countLine
 length-counts word a b h k =
     omega
     (arith, length-append (word ++ tabbed a ++ tabbed b) (10 ∷ []), length-append (word ++ tabbed a) (tabbed b), length-append word (tabbed a), length-tabbed a h, length-tabbed b k)
+
+-- A refusal whose numbers have no more than 20 digits, as any of 64 bits have, is written in at most 66 bytes.
+pub no-length : (r : Refusal) → Short (r .number) → Short (r .place) → Short (r .column) → length (noLine r) ≤ 66
+unfolding noLine codes tabbed
+no-length r a b c =
+    omega (
+      arith,
+      length-append (110 ∷ 111 ∷ 9 ∷ decimal (r .number) ++ 9 ∷ decimal (r .place) ++ 9 ∷ decimal (r .column)) (10 ∷ []),
+      length-append (110 ∷ 111 ∷ 9 ∷ decimal (r .number) ++ 9 ∷ decimal (r .place)) (9 ∷ decimal (r .column)),
+      length-append (110 ∷ 111 ∷ 9 ∷ decimal (r .number)) (9 ∷ decimal (r .place)),
+      length-decimal (r .number) a,
+      length-decimal (r .place) b,
+      length-decimal (r .column) c,
+    )
 
 length-take-line : (n : ℕ) → n < 1000 → length (takeLine n) ≤ 9
 unfolding takeLine codes

@@ -8,8 +8,7 @@ use Prim.Native.String.{String}
 use Rattle.slices.specs.Order.{order, equal}
 use Rattle.columns.specs.Patterns.{codes}
 use Rattle.refusals.specs.Table.{cutShort, tooManyRecords, bufferTooShort, refusal}
-use Rattle.refusals.specs.declared.Refusal.{Refusal}
-use Rattle.selection.specs.Pick.{Pick, refusedBy, picked}
+use Rattle.selection.specs.Pick.{refusedBy, picked}
 use Rattle.answers.specs.Answers.{noLine, countLine, takeLine, takeLines, pickText}
 use Rattle.answers.specs.Decimal.{digitsBy, decimal, tabbed}
 

@@ -23,6 +23,7 @@ use Rattle.wanted.proofs as wanted
 use Rattle.history.proofs as history
 use Rattle.applying.proofs as applying
 use Rattle.selection.proofs as selection
+use Rattle.answers.proofs as answers
 use Rattle.statements.proofs.number_itself
 
 -- A contract decides what is seen of the answer, and all that is left in what was lent to write to: of two runs on the same arguments, with
@@ -277,6 +278,17 @@ unique-line-of κs a x y v w p q = (p ∙ sym q, refl)
 
 pub unique-line : DeterminedAs selection.line.Kinds.ps selection.line.Kinds.r (λ κs. now) selection.line.Reads.Post
 unique-line κs a x y v w p q = (p ∙ sym q, refl)
+
+-- ---- answers
+
+pub unique-pick-answer : Determined answers.pick_answer.Kinds.ps answers.pick_answer.Kinds.r answers.pick_answer.Reads.Post
+unique-pick-answer κs a x y v w p q = (p .0 ∙ sym (q .0), ap (λ (b : List ℕ). (tt, (tt, (tt, (b, tt))))) (p .1 ∙ sym (q .1)))
+
+pub unique-newfile-answer : Determined answers.newfile_answer.Kinds.ps answers.newfile_answer.Kinds.r answers.newfile_answer.Reads.Post
+unique-newfile-answer κs a x y v w p q = (p .0 ∙ sym (q .0), ap (λ (b : List ℕ). (tt, (tt, (tt, (b, tt))))) (p .1 ∙ sym (q .1)))
+
+pub unique-check-answer : Determined answers.check_answer.Kinds.ps answers.check_answer.Kinds.r answers.check_answer.Reads.Post
+unique-check-answer κs a x y v w p q = (p .0 ∙ sym (q .0), ap (λ (b : List ℕ). (tt, (tt, (b, tt)))) (p .1 ∙ sym (q .1)))
 
 -- ---- statements
 

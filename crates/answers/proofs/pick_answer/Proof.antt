@@ -1,7 +1,6 @@
 -- The text of the pick, where it has room. Assumes nothing.
 use Rattle.answers.proofs.AnswerLaws.{wanted-within, wanted-counted, wanted-numbers, taken-within, pick-text}
 use Rattle.answers.proofs.WroteLaws.{answered}
-use mathlib.Core.Path.{subst}
 use borrow.Author.Needs.{needs}
 use Rattle.answers.proofs.pick_answer.Statement.{statement}
 use Rattle.answers.proofs.pick_answer.Tie as tie

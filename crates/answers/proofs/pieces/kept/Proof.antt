@@ -1,6 +1,6 @@
 -- Room or none. Assumes nothing.
 use borrow.Author.Tests.{lt-leb, le-leb}
-use mathlib.Core.Path.{_∙_, sym}
+use mathlib.Core.Path.{_∙_}
 use borrow.Author.Needs.{needs}
 use Rattle.answers.proofs.pieces.kept.Statement.{statement}
 use Rattle.answers.proofs.pieces.kept.Tie as tie

@@ -27,10 +27,9 @@ returns c =
     let called = c .before .before in
     let put = called .before .before .before .before in
     let start = put .before .before .before in
-    let w = wrote-tabbed _ (put .put-after .ensures) (called .put-decimal .ensures) in
     let n = start .args .n in
     let few = length-decimal n (let s : Short n = search needs in s) in
-    (w, omega (arith, few, called .put-decimal .ensures .stops))
+    (wrote-tabbed _ (put .put-after .ensures) (called .put-decimal .ensures), omega (arith, few, called .put-decimal .ensures .stops))
 
 pub put-tabbed-spec : {M : Type 1} → statement M
 put-tabbed-spec =
