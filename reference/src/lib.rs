@@ -17,10 +17,17 @@
 //! - `picks`: the stored set of picks
 //! - `pick_vectors`: how it is stored, and what this program answers to it
 //! - `times`: the inputs whose times are measured, in the same form
+//! - `answers`: what the three programs print
+//! - `folders`: the stored set of folders and the examples, and what this program answers to them
+//! - `random_folders`: folders without end, from a seed
+//! - `compare`: those, held to what another program answers to them
 
+pub mod answers;
 pub mod cases;
+pub mod compare;
 pub mod file;
 pub mod files;
+pub mod folders;
 pub mod judge;
 pub mod layout;
 pub mod log;
@@ -29,6 +36,7 @@ pub mod parts;
 pub mod pick;
 pub mod pick_vectors;
 pub mod picks;
+pub mod random_folders;
 pub mod record;
 pub mod report;
 pub mod times;
@@ -41,7 +49,8 @@ pub use record::{read, write};
 /// A stored file, by its path from this package, and what it holds.
 pub type Stored = (&'static str, Vec<u8>);
 
-/// All stored files: of records, of files, of logs and lists, of picks.
+/// All stored files: of records, of files, of logs and lists, of picks, of
+/// folders.
 pub fn stored_files() -> Vec<Stored> {
     let set = cases::all();
     let records = [
@@ -53,6 +62,7 @@ pub fn stored_files() -> Vec<Stored> {
         .chain(files::stored_files())
         .chain(logs::stored_files())
         .chain(pick_vectors::stored_files())
+        .chain(folders::stored_files())
         .collect()
 }
 

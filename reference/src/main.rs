@@ -1,19 +1,43 @@
-//! Writes the stored sets of records, of files, of logs and of picks, and the
-//! answers to them; or, with `times FOLDER`, the inputs whose times are measured
-//! into a folder.
+//! Writes the stored sets of records, of files, of logs, of picks and of folders,
+//! and the answers to them and to the examples. Or one of these:
+//!
+//! - `times FOLDER`: the inputs whose times are measured, into a folder
+//! - `folders PLACE`: the stored folders as folders, and what the programs are to print of each
+//! - `answers`: what this program answers to `folders.bin` in the folder that it runs in, as `vectors_answers` prints it
+//! - `compare SEED N [WORDS]`: N random folders from a seed, held to what the program that the words start answers
+//! - `random SEED NUMBER FOLDER`: the files of one of them, into a folder
 
+use std::io::Write;
 use std::path::Path;
-use std::{env, fs, io};
+use std::{env, fs, io, process};
 
-use reference::{stored_files, times};
+use reference::{answers, compare, folders, random_folders, stored_files, times};
+
+const USAGE: &str =
+    "usage: reference [times FOLDER | folders PLACE | answers | compare SEED N [WORDS] | random SEED NUMBER FOLDER]";
 
 fn main() -> io::Result<()> {
     let words: Vec<String> = env::args().skip(1).collect();
     match words.iter().map(String::as_str).collect::<Vec<_>>()[..] {
         [] => write_stored(),
         ["times", folder] => times::write(Path::new(folder)),
-        _ => Err(io::Error::new(io::ErrorKind::InvalidInput, "usage: reference [times FOLDER]")),
+        ["folders", place] => folders::write(Path::new(place)),
+        ["answers"] => answer_folders(),
+        ["compare", seed, cases, ref program @ ..] => {
+            let differing = compare::run(number(seed)?, number(cases)?, program)?;
+            process::exit(if differing == 0 { 0 } else { 1 })
+        }
+        ["random", seed, case, folder] => write_random(number(seed)?, number(case)?, Path::new(folder)),
+        _ => Err(wrong(USAGE)),
     }
+}
+
+fn wrong(what: &str) -> io::Error {
+    io::Error::new(io::ErrorKind::InvalidInput, what)
+}
+
+fn number(word: &str) -> io::Result<u64> {
+    word.parse().map_err(|_| wrong(&format!("{word} is no number")))
 }
 
 fn write_stored() -> io::Result<()> {
@@ -23,6 +47,21 @@ fn write_stored() -> io::Result<()> {
             fs::create_dir_all(folder)?;
         }
         fs::write(path, made)?;
+    }
+    Ok(())
+}
+
+fn answer_folders() -> io::Result<()> {
+    let stored = folders::unpacked(&fs::read("folders.bin")?);
+    let answers = (1..).zip(&stored).flat_map(|(number, inputs)| folders::answer(number, inputs));
+    io::stdout().write_all(&answers.collect::<Vec<u8>>())
+}
+
+fn write_random(seed: u64, case: u64, folder: &Path) -> io::Result<()> {
+    let answers::Inputs { frozen, log, want } = random_folders::random(seed, case);
+    fs::create_dir_all(folder)?;
+    for (name, bytes) in answers::NAMES.iter().zip([frozen, log, want]) {
+        fs::write(folder.join(name), bytes)?;
     }
     Ok(())
 }

@@ -45,7 +45,7 @@ fn rolled(sum: u64, number: usize) -> u64 {
 }
 
 /// The check sum of these bytes.
-fn sum(bytes: &[u8]) -> u64 {
+pub(crate) fn sum(bytes: &[u8]) -> u64 {
     bytes.iter().fold(0, |sum, byte| rolled(sum, usize::from(*byte)))
 }
 

@@ -52,15 +52,15 @@ pub fn all() -> Vec<Case> {
 // ---- records, files, logs
 
 /// The 132 bytes of a record.
-type Record = Vec<u8>;
+pub(crate) type Record = Vec<u8>;
 
 #[derive(Clone)]
-enum Line {
+pub(crate) enum Line {
     Out(Record),
     In(Record),
 }
 
-type Correction = Vec<Line>;
+pub(crate) type Correction = Vec<Line>;
 
 fn without_line_feed(mut line: Vec<u8>) -> Record {
     line.truncate(LINE - 1);
@@ -76,7 +76,7 @@ fn leg_of(route: &str, sequence: usize, version: usize, terminator: &str) -> Rec
 }
 
 /// A leg that may be first, and may follow and be followed by any of its kind.
-fn leg(route: &str, sequence: usize, version: usize) -> Record {
+pub(crate) fn leg(route: &str, sequence: usize, version: usize) -> Record {
     leg_of(route, sequence, version, "CF")
 }
 
@@ -90,7 +90,7 @@ fn continuation(route: &str, sequence: usize, number: char, version: usize) -> R
     without_line_feed(files::continuation(sequence, number, &changes))
 }
 
-fn file(records: &[Record]) -> Vec<u8> {
+pub(crate) fn file(records: &[Record]) -> Vec<u8> {
     records.iter().flat_map(|record| [record.as_slice(), b"\n"].concat()).collect()
 }
 
@@ -98,7 +98,7 @@ fn out(record: &Record) -> Line {
     Line::Out(record.clone())
 }
 
-fn put(record: &Record) -> Line {
+pub(crate) fn put(record: &Record) -> Line {
     Line::In(record.clone())
 }
 
@@ -107,7 +107,7 @@ fn replaced(old: &Record, new: &Record) -> Vec<Line> {
 }
 
 /// A leg that gets another version.
-fn renewed(route: &str, sequence: usize, from: usize, to: usize) -> Vec<Line> {
+pub(crate) fn renewed(route: &str, sequence: usize, from: usize, to: usize) -> Vec<Line> {
     replaced(&leg(route, sequence, from), &leg(route, sequence, to))
 }
 
@@ -118,11 +118,11 @@ fn line_bytes(line: &Line) -> Vec<u8> {
     }
 }
 
-fn headings(numbers: impl IntoIterator<Item = usize>) -> Vec<u8> {
+pub(crate) fn headings(numbers: impl IntoIterator<Item = usize>) -> Vec<u8> {
     numbers.into_iter().flat_map(|number| format!("C\t{number}\n").into_bytes()).collect()
 }
 
-fn log(corrections: &[Correction]) -> Vec<u8> {
+pub(crate) fn log(corrections: &[Correction]) -> Vec<u8> {
     let written = |(number, lines): (usize, &Correction)| {
         [headings([number]), lines.iter().flat_map(line_bytes).collect()].concat()
     };
@@ -663,7 +663,7 @@ fn troubled(has: &dyn Fn(usize) -> bool) -> Case {
 // ---- the largest
 
 /// 480 records in 16 routes of 30 legs.
-fn full_file() -> Vec<Record> {
+pub(crate) fn full_file() -> Vec<Record> {
     let routes = ('A'..='P').map(|name| name.to_string());
     routes.flat_map(|route| (1..=30).map(move |sequence| leg(&route, sequence, 0))).collect()
 }
@@ -719,7 +719,7 @@ pub fn timed() -> Vec<(String, Case)> {
 }
 
 /// As many records, corrections and lines as there may be.
-fn largest() -> Vec<Case> {
+pub(crate) fn largest() -> Vec<Case> {
     let full = full_file();
     let all = numbers(200);
     let lists: [&[u32]; 4] = [&all, &[], &[200], &[7, 150]];
@@ -759,7 +759,7 @@ fn stand(standing: &Standing, correction: &Correction) -> bool {
     })
 }
 
-fn chosen<T: Clone>(dice: &mut Dice, choice: &[T]) -> T {
+pub(crate) fn chosen<T: Clone>(dice: &mut Dice, choice: &[T]) -> T {
     choice[dice.below(choice.len())].clone()
 }
 
@@ -836,7 +836,7 @@ fn random() -> Vec<Case> {
     (0..120).map(|at| random_case(&mut dice, at % 5 == 4)).collect()
 }
 
-fn random_case(dice: &mut Dice, damaged: bool) -> Case {
+pub(crate) fn random_case(dice: &mut Dice, damaged: bool) -> Case {
     let mut standing = Standing::new();
     let mut corrections: Vec<Correction> = Vec::new();
     let mut frozen = Vec::new();

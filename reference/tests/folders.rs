@@ -1,0 +1,135 @@
+//! The stored folders keep their limits and meet every refusal, the three
+//! answers agree with each other, and the examples are what they tell.
+
+use std::collections::HashSet;
+
+use reference::answers::{check_answer, newfile_answer, pick_answer, Inputs};
+use reference::compare::differences;
+use reference::folders::{all, answer, examples, packed, stored_files, unpacked, Folder};
+use reference::random_folders::random;
+
+fn text(bytes: Vec<u8>) -> String {
+    String::from_utf8(bytes).expect("an answer is text")
+}
+
+/// By which number an answer refuses, 0 where it stands.
+fn refusal_number(answer: &[u8]) -> usize {
+    match answer.strip_prefix(b"no\t") {
+        Some(rest) => {
+            text(rest.to_vec()).split('\t').next().and_then(|word| word.parse().ok()).expect("a number")
+        }
+        None => 0,
+    }
+}
+
+fn stored_and_random() -> impl Iterator<Item = Inputs> {
+    all().into_iter().map(|folder| folder.inputs()).chain((1..=500).map(|number| random(1, number)))
+}
+
+#[test]
+fn what_is_stored_is_what_is_read() {
+    let inputs: Vec<Inputs> = all().iter().map(Folder::inputs).collect();
+    assert!(unpacked(&stored_files()[0].1) == inputs);
+    for (folder, Inputs { frozen, log, want }) in all().iter().zip(&inputs) {
+        let lengths = [frozen.len(), log.len(), want.len()];
+        assert!(lengths[0] <= 63_841 && lengths[1] <= 60_001 && lengths[2] <= 801, "{}", folder.name);
+    }
+    let lengths: HashSet<usize> =
+        inputs.iter().flat_map(|i| [i.frozen.len(), i.log.len(), i.want.len()]).collect();
+    for limit in [63_840, 63_841, 60_000, 60_001, 800, 801] {
+        assert!(lengths.contains(&limit), "no file of {limit} bytes");
+    }
+}
+
+#[test]
+fn every_refusal_is_met_that_can_be() {
+    let numbers = |print: fn(&Inputs) -> Vec<u8>| -> HashSet<usize> {
+        all().iter().map(|folder| refusal_number(&print(&folder.inputs()))).collect()
+    };
+    assert_eq!(numbers(pick_answer), (0..=13).collect());
+    assert_eq!(numbers(newfile_answer), (0..=13).collect());
+    assert_eq!(numbers(check_answer), (0..=13).filter(|number| *number != 12).collect());
+}
+
+#[test]
+fn the_three_answers_agree() {
+    for inputs in stored_and_random() {
+        let (picked, made, checked) = (pick_answer(&inputs), newfile_answer(&inputs), check_answer(&inputs));
+        assert!(picked.len() <= 1_813 && made.len() <= 63_840);
+        match refusal_number(&picked) {
+            0 => {
+                let first = text(picked).lines().next().map(str::to_string).expect("a line");
+                let records = first.split('\t').nth(2).and_then(|word| word.parse::<usize>().ok());
+                assert_eq!(records, Some(made.len() / 133));
+                assert!(made.chunks(133).all(|line| b"ST".contains(&line[0]) && line[132] == b'\n'));
+                assert!(checked.starts_with(b"ok\t"));
+            }
+            // Nothing wanted is asked about by a check, which may go on to 10 and 11.
+            12 => assert!(made == picked && [0, 10, 11].contains(&refusal_number(&checked))),
+            _ => assert!(made == picked && checked == picked),
+        }
+    }
+}
+
+#[test]
+fn the_requirement_prints_exactly_this() {
+    let [pqr, ..] = examples();
+    assert_eq!(text(pick_answer(&pqr.inputs())), "pick\t3\t3\ntake\t1\ntake\t3\ntake\t5\n");
+    assert_eq!(text(check_answer(&pqr.inputs())), "ok\t3\t5\n");
+    let inputs = Inputs { want: b"6\n".to_vec(), ..pqr.inputs() };
+    assert_eq!(text(pick_answer(&inputs)), "no\t12\t1\t0\n");
+    assert_eq!(text(newfile_answer(&inputs)), "no\t12\t1\t0\n");
+}
+
+/// The lines of the last correction: the record taken out and the one put in.
+fn last_change(log: &[u8]) -> (String, String) {
+    let log = text(log.to_vec());
+    let mut lines = log.lines().rev();
+    let mut record =
+        |letter: &str| lines.next().and_then(|line| line.strip_prefix(letter)).map(str::to_string);
+    let put_in = record("A\t").expect("it ends with an A line");
+    let taken_out = record("D\t").expect("a D line stands before it");
+    (taken_out, put_in)
+}
+
+#[test]
+fn the_leg_that_was_left_behind() {
+    let [_, left_behind, by_cycle_date] = examples();
+    let inputs = left_behind.inputs();
+    assert_eq!(text(pick_answer(&inputs)), "pick\t2\t10\ntake\t1\ntake\t3\n");
+    // The last correction alone has the newest cycle, and without the first its leg is refused.
+    let (taken_out, put_in) = last_change(&inputs.log);
+    let cycle = |record: &str| record[128..].to_string();
+    let records: Vec<String> =
+        text(inputs.log).lines().filter_map(|line| line.strip_prefix("A\t")).map(cycle).collect();
+    assert_eq!(records.iter().filter(|other| **other >= cycle(&put_in)).count(), 1);
+    let newest_alone = text(inputs.frozen).replace(&taken_out, &put_in);
+    assert_eq!(newest_alone, text(by_cycle_date.inputs().frozen));
+    assert_eq!(text(check_answer(&by_cycle_date.inputs())), "no\t8\t8\t48\n");
+}
+
+#[test]
+fn a_seed_gives_the_same_folders_and_another_gives_others() {
+    let folders = |seed: u64| (1..=50).flat_map(|number| packed(&random(seed, number))).collect::<Vec<u8>>();
+    assert!(folders(0) == folders(0));
+    assert!(folders(0) != folders(1));
+    let distinct: HashSet<Vec<u8>> = (1..=500).map(|number| packed(&random(2, number))).collect();
+    assert!(distinct.len() > 450, "{} of 500 are distinct", distinct.len());
+}
+
+#[test]
+fn a_difference_is_found_where_it_is() {
+    let expected: Vec<Vec<u8>> =
+        (1..).zip((1..=5).map(|number| random(3, number))).map(|(n, one)| answer(n, &one)).collect();
+    let found = |printed: &[Vec<u8>]| differences(&expected, &printed.concat());
+    assert_eq!(found(&expected), []);
+    assert_eq!(found(&expected[..4]), [3, 4]);
+    assert_eq!(found(&[]), [0, 1, 2, 3, 4]);
+    assert_eq!(found(&[&expected[..], &[b"more\n".to_vec()]].concat()), [4]);
+    for at in 0..5 {
+        let mut printed = expected.clone();
+        let last = printed[at].len() - 2;
+        printed[at][last] ^= 1;
+        assert_eq!(found(&printed), [at]);
+    }
+}
