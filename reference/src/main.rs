@@ -3,6 +3,7 @@
 //!
 //! - `times FOLDER`: the inputs whose times are measured, into a folder
 //! - `folders PLACE`: the stored folders as folders, and what the programs are to print of each
+//! - `print pick`, `print newfile`, `print check`: what that program is to print of the folder that this one runs in
 //! - `answers`: what this program answers to `folders.bin` in the folder that it runs in, as `vectors_answers` prints it
 //! - `compare SEED N [WORDS]`: N random folders from a seed, held to what the program that the words start answers
 //! - `random SEED NUMBER FOLDER`: the files of one of them, into a folder
@@ -14,7 +15,7 @@ use std::{env, fs, io, process};
 use reference::{answers, compare, folders, random_folders, stored_files, times};
 
 const USAGE: &str =
-    "usage: reference [times FOLDER | folders PLACE | answers | compare SEED N [WORDS] | random SEED NUMBER FOLDER]";
+    "usage: reference [times FOLDER | folders PLACE | print NAME | answers | compare SEED N [WORDS] | random SEED NUMBER FOLDER]";
 
 fn main() -> io::Result<()> {
     let words: Vec<String> = env::args().skip(1).collect();
@@ -22,6 +23,9 @@ fn main() -> io::Result<()> {
         [] => write_stored(),
         ["times", folder] => times::write(Path::new(folder)),
         ["folders", place] => folders::write(Path::new(place)),
+        ["print", "pick"] => io::stdout().write_all(&answers::pick_answer(&read_folder())),
+        ["print", "newfile"] => io::stdout().write_all(&answers::newfile_answer(&read_folder())),
+        ["print", "check"] => io::stdout().write_all(&answers::check_answer(&read_folder())),
         ["answers"] => answer_folders(),
         ["compare", seed, cases, ref program @ ..] => {
             let differing = compare::run(number(seed)?, number(cases)?, program)?;
@@ -49,6 +53,13 @@ fn write_stored() -> io::Result<()> {
         fs::write(path, made)?;
     }
     Ok(())
+}
+
+/// The folder that this program runs in. What can't be read to its end counts as
+/// empty.
+fn read_folder() -> answers::Inputs {
+    let [frozen, log, want] = answers::NAMES.map(|name| fs::read(name).unwrap_or_default());
+    answers::Inputs::of([&frozen, &log, &want])
 }
 
 fn answer_folders() -> io::Result<()> {
