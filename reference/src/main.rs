@@ -17,7 +17,14 @@ use reference::{answers, compare, folders, random_folders, stored_files, times};
 const USAGE: &str =
     "usage: reference [times FOLDER | folders PLACE | print NAME | answers | compare SEED N [WORDS] | random SEED NUMBER FOLDER]";
 
-fn main() -> io::Result<()> {
+fn main() {
+    if let Err(problem) = run() {
+        eprintln!("reference: {problem}");
+        process::exit(2);
+    }
+}
+
+fn run() -> io::Result<()> {
     let words: Vec<String> = env::args().skip(1).collect();
     match words.iter().map(String::as_str).collect::<Vec<_>>()[..] {
         [] => write_stored(),
