@@ -196,23 +196,18 @@ fn pqr() -> [Vec<u8>; 3] {
     [frozen, log, want]
 }
 
-/// Files that are missing, empty or can't be read, in all combinations or one
-/// at a time.
+/// Files that are missing, empty or can't be read, in all combinations or some.
+/// In a set of files the first is 1, the second 2 and the third 4.
 fn not_read() -> Vec<Folder> {
     let mut folders = Vec::new();
-    let mut without = |what: &str, entry: &dyn Fn(Vec<u8>) -> Entry, sets: &[usize]| {
+    let mut without = |what: &str, instead: &dyn Fn(Vec<u8>) -> Entry, sets: &[usize]| {
         for set in sets {
-            let chosen = |file: usize| set >> file & 1 == 1;
-            let names: Vec<&str> = (0..3).filter(|file| chosen(*file)).map(|file| NAMES[file]).collect();
-            let mut files = pqr().into_iter();
-            let entries = [0, 1, 2].map(|file| {
-                let bytes = files.next().expect("there are three files");
-                if chosen(file) {
-                    entry(bytes)
-                } else {
-                    Entry::Holds(bytes)
-                }
-            });
+            let has = |file: &usize| set >> file & 1 == 1;
+            let names: Vec<&str> = (0..3).filter(has).map(|file| NAMES[file]).collect();
+            let mut entries = pqr().map(Entry::Holds);
+            for file in (0..3).filter(has) {
+                entries[file] = instead(entries[file].read().to_vec());
+            }
             folders.push(Folder { name: format!("{what}: {}", names.join(", ")), entries });
         }
     };

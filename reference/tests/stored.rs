@@ -1,9 +1,10 @@
-//! All stored files are what the program makes, and the set of records keeps to
-//! its size.
+//! All stored files are what the program makes, the three programs are to print
+//! what it answers to their own data, and the set of records keeps to its size.
 
 use std::fs;
 use std::path::Path;
 
+use reference::answers::{check_answer, newfile_answer, pick_answer, Inputs, NAMES};
 use reference::{cases, read, stored_files, write};
 
 #[test]
@@ -12,6 +13,27 @@ fn the_stored_files_are_what_the_program_makes() {
         let path = Path::new(env!("CARGO_MANIFEST_DIR")).join(name);
         let stored = fs::read(path).unwrap_or_default();
         assert!(stored == made, "{name} is not what the program makes: run `cargo run --offline`");
+    }
+}
+
+/// A program of the repository, and what it prints of a folder.
+type Program = (&'static str, fn(&Inputs) -> Vec<u8>);
+
+#[test]
+fn the_programs_are_to_print_what_this_one_answers() {
+    let root = Path::new(env!("CARGO_MANIFEST_DIR")).join("..");
+    let crates = fs::read_to_string(root.join("crates.txt")).expect("crates.txt is text");
+    let programs: [Program; 3] =
+        [("pick", pick_answer), ("newfile", newfile_answer), ("check_log", check_answer)];
+    for (name, answer) in programs {
+        if !crates.lines().any(|line| line.starts_with(&format!("{name}:"))) {
+            continue;
+        }
+        let folder = root.join("crates").join(name);
+        let [frozen, log, want] =
+            NAMES.map(|file| fs::read(folder.join("data").join(file)).unwrap_or_default());
+        let stored = fs::read(folder.join("stdout")).unwrap_or_default();
+        assert!(stored == answer(&Inputs::of([&frozen, &log, &want])), "crates/{name}/stdout");
     }
 }
 
