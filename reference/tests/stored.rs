@@ -22,13 +22,9 @@ type Program = (&'static str, fn(&Inputs) -> Vec<u8>);
 #[test]
 fn the_programs_are_to_print_what_this_one_answers() {
     let root = Path::new(env!("CARGO_MANIFEST_DIR")).join("..");
-    let crates = fs::read_to_string(root.join("crates.txt")).expect("crates.txt is text");
     let programs: [Program; 3] =
         [("pick", pick_answer), ("newfile", newfile_answer), ("check_log", check_answer)];
     for (name, answer) in programs {
-        if !crates.lines().any(|line| line.starts_with(&format!("{name}:"))) {
-            continue;
-        }
         let folder = root.join("crates").join(name);
         let [frozen, log, want] =
             NAMES.map(|file| fs::read(folder.join("data").join(file)).unwrap_or_default());

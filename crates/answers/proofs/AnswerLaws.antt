@@ -10,6 +10,7 @@ use lib.ListN.{length, take, replicate, length-append, length-map}
 use lib.Seq.{take-at, length-take-le}
 use borrow.Author.Tests.{le-leb, ltb-false}
 use Rattle.slices.proofs.Cases.{split}
+use Rattle.slices.specs.Part.{padded}
 use Rattle.columns.specs.Patterns.{codes}
 use Rattle.refusals.specs.declared.Refusal.{Refusal}
 use Rattle.refusals.specs.declared.Verdict.{Verdict}
@@ -22,7 +23,7 @@ use Rattle.routes.specs.declared.Sources.{Sources}
 use Rattle.routes.proofs.Lines.{length-lines}
 use Rattle.corrections.specs.Reading.{Reading, refused, said, readLog, indexOf}
 use Rattle.corrections.specs.declared.Index.{Index}
-use Rattle.applying.specs.Bounds.{padded, sourcesFor}
+use Rattle.applying.specs.Bounds.{sourcesFor}
 use Rattle.selection.specs.Pick.{Pick, refusedBy, picked, logVerdict, pickOf, filePick, newRecords, newBytes, pickedAs}
 use Rattle.selection.specs.declared.Picked.{Picked}
 use Rattle.selection.proofs.Demand.{picked-demand}

@@ -5,11 +5,15 @@ use mathlib.Core.Bool.{cond}
 use mathlib.Core.List.{List, [], _∷_, _++_}
 use Prim.Native.Nat.{ℕ, zero, suc, _+_, _-_, _*_, _/_, _%_, _≤_, _<_}
 use native.Mathlib.Omega.{arith}
+use native.Mathlib.Nat.{mod-eq-of-lt}
 use lib.Dec.{ltb}
 use lib.ListN.{length, getD, length-append}
 use borrow.Author.Tests.{lt-ltb, le-ltb, ltb-true, ltb-false}
 use Rattle.slices.proofs.Cases.{split}
-use Rattle.corrections.proofs.DecimalLaws.{valueFrom}
+use Rattle.digits.specs.Digits.{value}
+use Rattle.digits.proofs.ValueLaws.{value-last}
+use Rattle.corrections.specs.Lines.{decimal as headingDecimal}
+use Rattle.corrections.proofs.ReachLaws.{decimal-ones, decimal-tens, decimal-hundreds}
 use Rattle.answers.specs.Decimal.{digitsBy, decimal}
 
 -- ---- a digit at a time
@@ -43,10 +47,6 @@ decimal-more n h s =
 
 -- ---- what the digits say
 
-value-append : (v : ℕ) (xs ys : List ℕ) → valueFrom v (xs ++ ys) ≡ valueFrom (valueFrom v xs) ys
-value-append v [] ys = refl
-value-append v (x ∷ xs) ys = value-append (v * 10 + (x - 48)) xs ys
-
 -- what holds of one digit, and of a number by the number in front of its last digit, holds of all
 module _ (P : ℕ → Type 0) (one : (n : ℕ) → n < 10 → P n) (more : (n : ℕ) → 10 ≤ n → Short n → P (n / 10) → P n) where
   by-digits-within : (most n : ℕ) → n < most → Short n → P n
@@ -58,12 +58,11 @@ module _ (P : ℕ → Type 0) (one : (n : ℕ) → n < 10 → P n) (more : (n : 
   by-digits n = by-digits-within (suc n) n (omega arith)
 
 -- The value of the digits is the number.
-pub decimal-value : (n : ℕ) → Short n → valueFrom 0 (decimal n) ≡ n
+pub decimal-value : (n : ℕ) → Short n → value (decimal n) ≡ n
+unfolding value
 decimal-value =
-    by-digits (λ n. valueFrom 0 (decimal n) ≡ n) (λ n h. rw (decimal-one n h) (omega arith))
-    (λ n h s e.
-    let z : valueFrom (valueFrom 0 (decimal (n / 10))) ((n % 10 + 48) ∷ []) ≡ n = rw e (omega arith) in
-    rw (decimal-more n h s) (value-append 0 (decimal (n / 10)) ((n % 10 + 48) ∷ []) ∙ z))
+    by-digits (λ n. value (decimal n) ≡ n) (λ n h. rw (decimal-one n h) (omega arith))
+    (λ n h s e. rw (decimal-more n h s, value-last (decimal (n / 10)) (n % 10 + 48), e) (omega arith))
 
 some-digit : (n : ℕ) → Short n → 1 ≤ length (decimal n)
 some-digit =
@@ -114,3 +113,24 @@ length-decimal n s = digits-few 19 n s s
 
 pub length-below-1000 : (n : ℕ) → n < 1000 → length (decimal n) ≤ 3
 length-below-1000 n h = digits-few 2 n (omega arith) h
+
+-- ---- below 1,000
+
+-- The headings of a log write their numbers alike.
+pub as-in-headings : (n : ℕ) → n < 1000 → decimal n ≡ headingDecimal n
+as-in-headings n h =
+    split (ltb n 10)
+    (λ t. let k = ltb-true n 10 t in decimal-one n k ∙ rw (decimal-ones n k, mod-eq-of-lt k))
+    (λ t.
+    let g = ltb-false n 10 t in
+    let back = decimal-more n g (omega arith) in
+    split (ltb n 100)
+    (λ u.
+    let k = ltb-true n 100 u in
+    let d : n / 10 < 10 = omega arith in
+    back ∙ rw (decimal-one (n / 10) d, decimal-tens n g k, mod-eq-of-lt d))
+    (λ u.
+    let k = ltb-false n 100 u in
+    let d : n / 10 / 10 < 10 = omega arith in
+    let e : n / 100 ≡ n / 10 / 10 = omega arith in
+    back ∙ rw (decimal-more (n / 10) (omega arith) (omega arith), decimal-one (n / 10 / 10) d, decimal-hundreds n k, e, mod-eq-of-lt d)))

@@ -9,11 +9,11 @@ use lib.Seq.{length-take-le}
 use lib.Dec.{leb}
 use borrow.Author.Tests.{le-leb, leb-true}
 use Rattle.slices.proofs.Cases.{split}
+use Rattle.slices.specs.Part.{padded}
 use Rattle.columns.specs.Patterns.{codes}
 use Rattle.history.specs.Sets.{Numbers}
 use Rattle.refusals.specs.declared.Refusal.{Refusal}
 use Rattle.routes.specs.Places.{Every}
-use Rattle.applying.specs.Bounds.{padded}
 use Rattle.selection.specs.Pick.{membersFrom, picked, pickOf}
 use Rattle.selection.proofs.Demand.{picked-demand}
 use Rattle.answers.specs.Answers.{noLine, countLine, takeLine, takeLines, pickText, held}

@@ -9,11 +9,10 @@ use lib.Dec.{leb}
 use lib.ListN.{length, set, replicate, length-append, length-replicate}
 use lib.Seq.{sets, length-sets}
 use borrow.Author.Tests.{leb-true}
-use Rattle.slices.specs.Part.{part}
+use Rattle.slices.specs.Part.{part, padded}
 use Rattle.slices.proofs.Cases.{split}
 use Rattle.slices.proofs.PartLaws.{part-all}
 use Rattle.slices.proofs.WriteLaws.{sets-append, stored-front}
-use Rattle.applying.specs.Bounds.{padded}
 use Rattle.answers.specs.Answers.{held}
 use Rattle.answers.specs.Decimal.{decimal, tabbed}
 use Rattle.answers.specs.Written.{Wrote}

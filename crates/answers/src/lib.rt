@@ -5,7 +5,7 @@ mod texts;
 
 ghost use mathlib.Core.Path.{_≡_};
 ghost use lib.ListN.{length};
-ghost use Rattle.applying.specs.Bounds.{padded};
+ghost use Rattle.slices.specs.Part.{padded};
 ghost use Rattle.answers.specs.Answers.{pickAnswer, newfileAnswer, checkAnswer, held};
 use pieces::kept;
 use refusals::Verdict;

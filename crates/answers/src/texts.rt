@@ -1,5 +1,4 @@
 // The lines of the answers. Assumes of its callers, all in this crate, that a pick takes no more than 200 corrections.
-ghost use mathlib.Core.Path.{_≡_};
 ghost use Prim.Native.Nat.{_+_, _≤_};
 ghost use lib.ListN.{length, take};
 ghost use Rattle.answers.specs.Answers.{noLine, countLine, takeLine, takeLines, pickedText};

@@ -1,3 +1,4 @@
 -- The laws that other crates cite too, and one turn of each loop here.
 pub mod Powers
+pub mod ValueLaws
 mod Turns
