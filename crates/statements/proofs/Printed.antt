@@ -7,7 +7,8 @@ use lib.ListN.{length}
 use Rattle.slices.specs.Search.{firstAt}
 use Rattle.columns.specs.Patterns.{codes}
 use Rattle.refusals.specs.Table.{refusal}
-use Rattle.wanted.specs.Numbers.{isDigit, numberOf, lineNumber, numbersIn}
+use Rattle.digits.specs.Digits.{isDigit, allDigits, value}
+use Rattle.wanted.specs.Numbers.{numberOf, lineNumber, numbersIn}
 use Rattle.selection.specs.Pick.{Pick, refusedBy, picked, pickOf}
 use Rattle.answers.specs.Answers.{noLine, countLine, takeLine, takeLines, pickText, pickAnswer}
 use Rattle.answers.specs.Decimal.{digitsBy, decimal, tabbed}
@@ -31,11 +32,11 @@ printed want wanted a e m = ap (λ (ns : List ℕ). pickText (pickOf frozen log 
 
 -- "wanted 5 prints exactly this"
 pub prints-five : pickAnswer frozen log (codes "5\n") ≡ codes "pick\t3\t3\ntake\t1\ntake\t3\ntake\t5\n"
-unfolding starred numbersIn lineNumber numberOf isDigit firstAt codes answerText countLine takeLines takeLine tabbed decimal digitsBy
+unfolding starred numbersIn lineNumber numberOf isDigit allDigits value firstAt codes answerText countLine takeLines takeLine tabbed decimal digitsBy
 prints-five = printed (codes "5\n") (5 ∷ []) (takes (1 ∷ 3 ∷ 5 ∷ []) 3) refl (cases .1 .1 .1 .1 .1 .1 .1 .1 .1 .1 .1 .1 .1 .1 .1 .1 .1 .0)
 
 pub prints-four-twice : pickAnswer frozen log (codes "4\n4\n") ≡ codes "pick\t2\t3\ntake\t2\ntake\t4\n"
-unfolding starred numbersIn lineNumber numberOf isDigit firstAt codes answerText countLine takeLines takeLine tabbed decimal digitsBy
+unfolding starred numbersIn lineNumber numberOf isDigit allDigits value firstAt codes answerText countLine takeLines takeLine tabbed decimal digitsBy
 prints-four-twice = printed (codes "4\n4\n") (4 ∷ 4 ∷ []) (takes (2 ∷ 4 ∷ []) 3) refl (cases .1 .1 .1 .1 .1 .1 .1 .1 .1 .1 .1 .1 .1 .1 .1 .1 .1 .1 .0)
 
 pub prints-none : pickAnswer frozen log [] ≡ codes "pick\t0\t3\n"
@@ -43,5 +44,5 @@ unfolding starred numbersIn codes answerText countLine takeLines tabbed decimal 
 prints-none = printed [] [] (takes [] 3) refl (cases .1 .1 .1 .1 .1 .1 .1 .1 .1 .1 .1 .1 .1 .1 .1 .1 .1 .1 .1 .0)
 
 pub prints-six : pickAnswer frozen log (codes "6\n") ≡ codes "no\t12\t1\t0\n"
-unfolding starred numbersIn lineNumber numberOf isDigit firstAt codes answerText noLine tabbed decimal digitsBy
+unfolding starred numbersIn lineNumber numberOf isDigit allDigits value firstAt codes answerText noLine tabbed decimal digitsBy
 prints-six = printed (codes "6\n") (6 ∷ []) (refuses 12 1 0) refl (cases .1 .1 .1 .1 .1 .1 .1 .1 .1 .1 .1 .1 .1 .1 .1 .1 .1 .1 .1 .1 .0)
