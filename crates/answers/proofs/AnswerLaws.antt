@@ -11,6 +11,7 @@ use lib.Seq.{take-at, length-take-le}
 use borrow.Author.Tests.{le-leb, ltb-false}
 use Rattle.slices.proofs.Cases.{split}
 use Rattle.slices.specs.Part.{padded}
+use Rattle.refusals.proofs.VerdictLaws.{never, same-refusal}
 use Rattle.columns.specs.Patterns.{codes}
 use Rattle.refusals.specs.declared.Refusal.{Refusal}
 use Rattle.refusals.specs.declared.Verdict.{Verdict}
@@ -66,12 +67,6 @@ module _ (f l want ws : List ℕ) (q : ws ≡ numbersIn 200 want) {p : Picked} (
 
 -- ---- a new file
 
-accepted-not-refused : {r : Refusal} → Refused r ≡ Accepted → ⊥
-accepted-not-refused e = let z : _≡_ {A = ℕ} 0 1 = cc in absurd (omega arith)
-
-same-refusal : {r s : Refusal} → Refused r ≡ Refused s → r ≡ s
-same-refusal e = cc
-
 module _ (f l want ws : List ℕ) (n : ℕ) (q : ws ≡ numbersIn 200 want) {p : Picked} {out : List ℕ}
     (e : (p ≡ pickedAs (filePick f l n ws)) × (out ≡ padded n (newBytes f l (filePick f l n ws)))) where
   same-answer : fileText f l (filePick f l n ws) ≡ newfileAnswer f l n want
@@ -103,7 +98,7 @@ module _ (f l want ws : List ℕ) (n : ℕ) (q : ws ≡ numbersIn 200 want) {p :
     where
       by : (x : Pick) → filePick f l n ws ≡ x → p ≡ pickedAs x → out ≡ padded n (newBytes f l x)
           → (p .records .count * 133 ≡ length (held n (fileText f l x))) × (out ≡ padded n (held n (fileText f l x)))
-      by (refusedBy r) z c o = absurd (accepted-not-refused (sym (ap (λ (x : Picked). x .verdict) c) ∙ a))
+      by (refusedBy r) z c o = absurd (never (sym (ap (λ (x : Picked). x .verdict) c) ∙ a))
       by (picked ns xs) z c o =
           let s = lent-picked ns xs z in
           let d = picked-demand f l ws ns xs (s .1) in
@@ -119,7 +114,7 @@ module _ (f l want ws : List ℕ) (n : ℕ) (q : ws ≡ numbersIn 200 want) {p :
       where
         by : (x : Pick) → p ≡ pickedAs x → noLine r ≡ fileText f l x
         by (refusedBy s) c = ap noLine (same-refusal (sym a ∙ ap (λ (x : Picked). x .verdict) c))
-        by (picked ns xs) c = absurd (accepted-not-refused (sym a ∙ ap (λ (x : Picked). x .verdict) c))
+        by (picked ns xs) c = absurd (never (sym a ∙ ap (λ (x : Picked). x .verdict) c))
 
     pub refused-clear : out ≡ replicate n 0
     unfolding pickedAs newBytes newRecords lines
@@ -127,7 +122,7 @@ module _ (f l want ws : List ℕ) (n : ℕ) (q : ws ≡ numbersIn 200 want) {p :
       where
         by : (x : Pick) → p ≡ pickedAs x → out ≡ padded n (newBytes f l x) → out ≡ replicate n 0
         by (refusedBy s) c o = let z : n - 0 ≡ n = omega arith in o ∙ rw z
-        by (picked ns xs) c o = absurd (accepted-not-refused (sym a ∙ ap (λ (x : Picked). x .verdict) c))
+        by (picked ns xs) c o = absurd (never (sym a ∙ ap (λ (x : Picked). x .verdict) c))
 
 -- ---- a log
 

@@ -31,10 +31,6 @@ use Rattle.applying.proofs.RunLaws.{came-refused, came-stands}
 
 -- ---- zeros past the sources that count
 
-pub in-use-length : (s : Sources) → s .count ≤ 480 → length (s .at) ≡ 480 → length (inUse s) ≡ s .count
-unfolding inUse
-in-use-length s h n = length-take-le (s .count) (s .at) (omega arith)
-
 pub all-cleared : (s next : Sources) → s .count ≤ 480 → length (s .at) ≡ 480 → next .count ≡ s .count → next .at ≡ cleared (s .at) (s .count) → next ≡ sourcesFor (inUse s)
 unfolding sourcesFor inUse cleared
 all-cleared s next h n c a =

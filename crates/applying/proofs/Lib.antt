@@ -1,6 +1,6 @@
 -- The laws of this crate; Bridge ties what is run to the theory of selection.
 mod ShiftLaws
-mod StateLaws
+pub mod StateLaws
 pub mod ApplyLaws
 mod KnownLaws
 mod JudgeLaws

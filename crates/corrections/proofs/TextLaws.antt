@@ -30,6 +30,13 @@ entriesIn begun at (c ∷ cs) =
     let w : ℕ = length (heading (begun + 1)) in
     entriesFrom (begun + 1) (at + w) c ++ entriesIn (begun + 1) (at + w + length c * 135) cs
 
+-- the same, each correction by itself
+unfoldable pub groups : (begun at : ℕ) → List (List Change) → List (List Entry)
+groups begun at [] = []
+groups begun at (c ∷ cs) =
+    let w : ℕ = length (heading (begun + 1)) in
+    entriesFrom (begun + 1) (at + w) c ∷ groups (begun + 1) (at + w + length c * 135) cs
+
 -- the lines of corrections
 linesIn : List (List Change) → ℕ
 linesIn [] = 0

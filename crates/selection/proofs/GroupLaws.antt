@@ -12,7 +12,7 @@ use Rattle.slices.proofs.Cases.{split}
 use Rattle.corrections.specs.Lines.{heading}
 use Rattle.corrections.specs.Reading.{Entry, said, readLog}
 use Rattle.corrections.specs.Text.{Change}
-use Rattle.corrections.proofs.TextLaws.{entriesFrom, entriesIn}
+use Rattle.corrections.proofs.TextLaws.{entriesFrom, entriesIn, groups}
 use Rattle.corrections.proofs.Within.{legal-read}
 use Rattle.corrections.proofs.Spelling.{said-legal}
 use Rattle.applying.specs.Run.{leading, byCorrection}
@@ -103,13 +103,6 @@ line-of (es ∷ ess) d (suc n) i h =
     (length es + w .0, omega (arith, length-append es (flat ess), w .1), getD-append-add es (flat ess) (w .0) d ∙ w .2)
 
 -- ---- the lines of a legal log
-
--- the corrections' lines, each correction's by themselves
-unfoldable pub groups : (begun at : ℕ) → List (List Change) → List (List Entry)
-groups begun at [] = []
-groups begun at (c ∷ cs) =
-    let w : ℕ = length (heading (begun + 1)) in
-    entriesFrom (begun + 1) (at + w) c ∷ groups (begun + 1) (at + w + length c * 135) cs
 
 from-own : (n at : ℕ) (xs : List Change) → AllOf n (entriesFrom n at xs)
 unfolding entriesFrom

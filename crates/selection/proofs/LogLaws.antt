@@ -2,22 +2,21 @@
 -- Assumes nothing.
 use mathlib.Core.Path.{_≡_, refl, sym, ap, ap₂, _∙_}
 use mathlib.Core.List.{List, [], _∷_, _++_, map, append-assoc}
-use Prim.Native.Nat.{ℕ, _+_, _-_, _*_, _≤_}
+use Prim.Native.Nat.{ℕ, _+_, _-_, _≤_}
 use native.Mathlib.Omega.{arith}
 use lib.ListN.{length, take, length-append}
 use lib.Seq.{take-at, drop-append-add}
 use borrow.Author.Tests.{le-leb}
-use Rattle.corrections.specs.Lines.{heading}
 use Rattle.corrections.specs.Reading.{Entry, entry}
-use Rattle.corrections.specs.Text.{Change, takeOut, putIn, letterOf, changeText, headingText, Sound, changesText, logText, EverySound, AllSound, puts, allPuts, LegalLog}
-use Rattle.corrections.proofs.TextLaws.{entriesFrom, entriesIn, change-length}
-use Rattle.corrections.proofs.ReadBack.{heading-length, changes-length}
+use Rattle.corrections.specs.Text.{Change, takeOut, putIn, letterOf, changeText, Sound, EverySound, AllSound, puts, allPuts, LegalLog}
+use Rattle.corrections.proofs.TextLaws.{entriesIn}
+use Rattle.corrections.proofs.ReadBack.{corrections-made}
 use Rattle.routes.specs.Sources.{recordWithin}
 use Rattle.routes.proofs.SourceLaws.{in-log}
-use Rattle.history.specs.Apply.{Op, take-out, put-in}
+use Rattle.history.specs.Apply.{take-out, put-in}
 use Rattle.applying.specs.Apply.{recordOf}
 use Rattle.applying.specs.Run.{byCorrection}
-use Rattle.selection.proofs.GroupLaws.{groups, by-groups}
+use Rattle.selection.proofs.GroupLaws.{by-groups}
 use Rattle.applying.specs.Procedures.{operation, operations, opOf, logOf}
 use Rattle.applying.proofs.Kept.{addsAll, addsIn, WideLines, WideLog}
 
@@ -52,47 +51,11 @@ module _ (frozen log : List ℕ) where
   change-there front rest (takeOut r) n at s a e = ap take-out (bytes-there front rest r 68 at n (s .0) a e)
   change-there front rest (putIn r) n at s a e = ap put-in (bytes-there front rest r 65 at n (s .0) a e)
 
-  -- ---- the lines of a correction, and of all
-
-  -- a text in front moves a line on
-  moved : (front t rest : List ℕ) → log ≡ front ++ (t ++ rest) → log ≡ (front ++ t) ++ rest
-  moved front t rest e = e ∙ sym (append-assoc front t rest)
-
-  changes-there : (front rest : List ℕ) (xs : List Change) (n at : ℕ) → EverySound xs → at ≡ length front → log ≡ front ++ (changesText xs ++ rest)
-      → map (operation frozen log) (entriesFrom n at xs) ≡ map opOf xs
-  unfolding entriesFrom changesText
-  changes-there front rest [] n at s a e = refl
-  changes-there front rest (x ∷ xs) n at s a e =
-      let h : log ≡ front ++ (changeText x ++ (changesText xs ++ rest)) =
-      e ∙ ap (λ (t : List ℕ). front ++ t) (append-assoc (changeText x) (changesText xs) rest) in
-      ap₂ (λ (o : Op (List ℕ)) (c : List (Op (List ℕ))). o ∷ c) (change-there front (changesText xs ++ rest) x n at (s .0) a h)
-      (changes-there (front ++ changeText x) rest xs n (at + 135) (s .1) (sym (length-append front (changeText x) ∙ rw (change-length x (s .0), a)))
-      (moved front (changeText x) (changesText xs ++ rest) h))
-
-  corrections-there : (front : List ℕ) (cs : List (List Change)) (begun at : ℕ) → AllSound cs → at ≡ length front → log ≡ front ++ logText begun cs
-      → operations frozen log (groups begun at cs) ≡ map (map opOf) cs
-  unfolding operations groups logText
-  corrections-there front [] begun at s a e = refl
-  corrections-there front (c ∷ cs) begun at s a e =
-      ap₂ (λ (x : List (Op (List ℕ))) (xs : List (List (Op (List ℕ)))). x ∷ xs)
-      (changes-there (front ++ headingText (begun + 1)) (logText (begun + 1) cs) c (begun + 1) (at + w) (s .0) here there)
-      (corrections-there ((front ++ headingText (begun + 1)) ++ changesText c) cs (begun + 1) (at + w + length c * 135) (s .1)
-      (sym (length-append (front ++ headingText (begun + 1)) (changesText c) ∙ rw (changes-length c (s .0), here)))
-      (moved (front ++ headingText (begun + 1)) (changesText c) (logText (begun + 1) cs) there))
-    where
-      w : ℕ
-      w = length (heading (begun + 1))
-
-      here : at + w ≡ length (front ++ headingText (begun + 1))
-      here = sym (length-append front (headingText (begun + 1)) ∙ rw (heading-length (begun + 1), a))
-
-      there : log ≡ (front ++ headingText (begun + 1)) ++ (changesText c ++ logText (begun + 1) cs)
-      there = moved front (headingText (begun + 1)) (changesText c ++ logText (begun + 1) cs) e
-
   -- The corrections that are read of a legal log are those that its text says.
   pub log-operations : (m : ℕ) (l : LegalLog log m)
       → operations frozen log (byCorrection 1 (length (l .corrections)) (entriesIn 0 0 (l .corrections))) ≡ logOf l
-  log-operations m l = ap (operations frozen log) (by-groups 0 0 (l .corrections)) ∙ corrections-there [] (l .corrections) 0 0 (l .sound) refl (l .text)
+  unfolding operations
+  log-operations m l = ap (operations frozen log) (by-groups 0 0 (l .corrections)) ∙ corrections-made log (operation frozen log) opOf change-there [] (l .corrections) 0 0 (l .sound) refl (l .text)
 
 -- ---- their records, and how many they put in
 

@@ -20,7 +20,7 @@ use Rattle.routes.proofs.Lines.{length-lines}
 use Rattle.selection.specs.Pick.{Pick, refusedBy, picked, pickOf, newRecords, newBytes, filePick, pickedAs, stored}
 use Rattle.selection.specs.declared.Picked.{Picked}
 use Rattle.applying.specs.Bounds.{sourcesFor}
-use Rattle.applying.proofs.BoundLaws.{in-use-length}
+use Rattle.applying.proofs.StateLaws.{in-use-length}
 use Rattle.selection.proofs.Demand.{picked-demand}
 
 -- ---- one turn: the record at i is stored behind those before it
