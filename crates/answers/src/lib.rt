@@ -19,6 +19,13 @@ pub const LONGEST_LINES: usize = 1813;
 // No new file is longer; what is shorter is too short for one.
 pub const LONGEST_FILE: usize = 63840;
 
+// As much as the programs read of frozen.txt, log.txt and want.txt: one byte past the limit, so that a file that is too long is seen to be.
+pub const FROZEN_READ: usize = 63841;
+
+pub const LOG_READ: usize = 60001;
+
+pub const WANT_READ: usize = 801;
+
 // What `pick` prints: the corrections taken, or the refusal. Where the buffer has no room for it nothing is written; zeros past it.
 pub fn pick_answer<'a>(frozen: &'a [u8], log: &'a [u8], want: &[u8], out: &mut [u8]) -> usize
     ensures { λ r. ⌜ (r ≡ length (held (length (now (out .entry))) (pickAnswer (now (frozen .entry)) (now (log .entry)) (now (want .entry))))) × (now (out .exit) ≡ padded (length (now (out .entry))) (held (length (now (out .entry))) (pickAnswer (now (frozen .entry)) (now (log .entry)) (now (want .entry))))) ⌝ }

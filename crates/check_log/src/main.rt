@@ -4,9 +4,9 @@
 use libc::STDOUT_FILENO;
 
 fn main() {
-    let mut frozen = [0u8; 63841];
+    let mut frozen = [0u8; answers::FROZEN_READ];
     let f = folder::read(b"frozen.txt", &mut frozen);
-    let mut log = [0u8; 60001];
+    let mut log = [0u8; answers::LOG_READ];
     let l = folder::read(b"log.txt", &mut log);
     let mut out = [0u8; answers::LONGEST_LINES];
     let n = answers::check_answer(&frozen[..f], &log[..l], &mut out);

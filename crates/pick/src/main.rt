@@ -4,11 +4,11 @@
 use libc::STDOUT_FILENO;
 
 fn main() {
-    let mut frozen = [0u8; 63841];
+    let mut frozen = [0u8; answers::FROZEN_READ];
     let f = folder::read(b"frozen.txt", &mut frozen);
-    let mut log = [0u8; 60001];
+    let mut log = [0u8; answers::LOG_READ];
     let l = folder::read(b"log.txt", &mut log);
-    let mut want = [0u8; 801];
+    let mut want = [0u8; answers::WANT_READ];
     let w = folder::read(b"want.txt", &mut want);
     let mut out = [0u8; answers::LONGEST_LINES];
     let n = answers::pick_answer(&frozen[..f], &log[..l], &want[..w], &mut out);

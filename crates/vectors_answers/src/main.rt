@@ -151,9 +151,9 @@ fn main() {
         os::fail(path);
         return;
     }
-    let mut frozen = [0u8; 63841];
-    let mut log = [0u8; 60001];
-    let mut want = [0u8; 801];
+    let mut frozen = [0u8; answers::FROZEN_READ];
+    let mut log = [0u8; answers::LOG_READ];
+    let mut want = [0u8; answers::WANT_READ];
     let mut lines = [0u8; answers::LONGEST_LINES];
     let mut file = [0u8; answers::LONGEST_FILE];
     print_folders(fd, &mut frozen, &mut log, &mut want, &mut lines, &mut file);
