@@ -46,11 +46,12 @@ make_ready() { # CRATE
     [ -x "$built" ] || rm -f "$root/target/stamp/$1"
     set -- rt check "$1"
     if command -v flock >/dev/null; then set -- flock "$root/target/ready/lock" "$@"; fi
-    if (cd "$root" && "$@") </dev/null >&2 && [ -x "$built" ]; then
-        mv "$mark.$$" "$mark"
-    else
+    # Of all that rt says, a line for each crate is shown while one waits.
+    { (cd "$root" && "$@") && [ -x "$built" ] && mv "$mark.$$" "$mark"; } </dev/null 2>&1 | tee "$mark.said" |
+        while IFS= read -r line; do case $line in 'rt: '*) printf '%s\n' "$line" >&2 ;; esac; done
+    if [ -e "$mark.$$" ]; then
         rm -f "$mark.$$"
-        fail "${built##*/} is not proved, and so is not run; what rt says stands above and in target/log/"
+        fail "${built##*/} is not proved, and so is not run; what rt said is in target/ready/${built##*/}.said"
     fi
 }
 

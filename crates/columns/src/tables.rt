@@ -1,4 +1,4 @@
-// The layouts as tables of bytes, made by scripts/column-tables of specs/Layout.antt and tied to it by computation. Assumes nothing.
+// The layouts as tables of bytes, made by tools/column-tables of specs/Layout.antt and tied to it by computation. Assumes nothing.
 ghost use mathlib.Core.Path.{_≡_};
 ghost use Rattle.columns.specs.Rows.{firstBad};
 ghost use Rattle.columns.specs.Layout.{primary, continuation};
