@@ -1,10 +1,12 @@
 -- What the programs print, byte for byte.
 -- Assumes nothing.
 use Prim.Native.Nat.{ℕ}
+use mathlib.Core.Path.{_≡_}
 use mathlib.Core.Bool.{cond}
 use mathlib.Core.List.{List, [], _∷_, _++_}
 use lib.Dec.{leb}
 use lib.ListN.{length, take}
+use Rattle.slices.specs.Part.{padded}
 use Rattle.columns.specs.Patterns.{codes}
 use Rattle.refusals.specs.declared.Refusal.{Refusal}
 use Rattle.refusals.specs.declared.Verdict.{Verdict}
@@ -71,6 +73,11 @@ newfileAnswer frozen log lent want = fileText frozen log (filePick frozen log le
 -- an answer that a buffer has no room for is not written at all
 unfoldable pub held : (room : ℕ) → List ℕ → List ℕ
 held room bytes = cond (leb (length bytes) room) bytes []
+
+-- a buffer is left with the answer, or with nothing where it has no room, and zeros behind; so many bytes are counted
+abbrev pub Leaves : (before after : List ℕ) → (answer : List ℕ) → (counted : ℕ) → Type 0
+Leaves before after answer counted =
+    (counted ≡ length (held (length before) answer)) × (after ≡ padded (length before) (held (length before) answer))
 
 -- ---- as the code has it
 

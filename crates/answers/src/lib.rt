@@ -3,10 +3,8 @@
 mod pieces;
 mod texts;
 
-ghost use mathlib.Core.Path.{_≡_};
 ghost use lib.ListN.{length};
-ghost use Rattle.slices.specs.Part.{padded};
-ghost use Rattle.answers.specs.Answers.{pickAnswer, newfileAnswer, checkAnswer, held};
+ghost use Rattle.answers.specs.Answers.{pickAnswer, newfileAnswer, checkAnswer, Leaves};
 use pieces::kept;
 use refusals::Verdict;
 use texts::put_counts;
@@ -28,7 +26,7 @@ pub const WANT_READ: usize = 801;
 
 // What `pick` prints: the corrections taken, or the refusal. Where the buffer has no room for it nothing is written; zeros past it.
 pub fn pick_answer<'a>(frozen: &'a [u8], log: &'a [u8], want: &[u8], out: &mut [u8]) -> usize
-    ensures { λ r. ⌜ (r ≡ length (held (length (now (out .entry))) (pickAnswer (now (frozen .entry)) (now (log .entry)) (now (want .entry))))) × (now (out .exit) ≡ padded (length (now (out .entry))) (held (length (now (out .entry))) (pickAnswer (now (frozen .entry)) (now (log .entry)) (now (want .entry))))) ⌝ }
+    ensures { λ r. ⌜ Leaves (now (out .entry)) (now (out .exit)) (pickAnswer (now (frozen .entry)) (now (log .entry)) (now (want .entry))) r ⌝ }
 {
     let wanted = wanted::numbers(want);
     let count = wanted.count;
@@ -41,7 +39,7 @@ pub fn pick_answer<'a>(frozen: &'a [u8], log: &'a [u8], want: &[u8], out: &mut [
 
 // What `newfile` prints: the new file, or the refusal, which is 14 where the buffer is shorter than the longest file.
 pub fn newfile_answer<'a>(frozen: &'a [u8], log: &'a [u8], want: &[u8], out: &mut [u8]) -> usize
-    ensures { λ r. ⌜ (r ≡ length (held (length (now (out .entry))) (newfileAnswer (now (frozen .entry)) (now (log .entry)) (length (now (out .entry))) (now (want .entry))))) × (now (out .exit) ≡ padded (length (now (out .entry))) (held (length (now (out .entry))) (newfileAnswer (now (frozen .entry)) (now (log .entry)) (length (now (out .entry))) (now (want .entry))))) ⌝ }
+    ensures { λ r. ⌜ Leaves (now (out .entry)) (now (out .exit)) (newfileAnswer (now (frozen .entry)) (now (log .entry)) (length (now (out .entry))) (now (want .entry))) r ⌝ }
 {
     let wanted = wanted::numbers(want);
     let count = wanted.count;
@@ -60,7 +58,7 @@ pub fn newfile_answer<'a>(frozen: &'a [u8], log: &'a [u8], want: &[u8], out: &mu
 
 // What `check` prints: how many frozen records and how many corrections there are, or the refusal.
 pub fn check_answer<'a>(frozen: &'a [u8], log: &'a [u8], out: &mut [u8]) -> usize
-    ensures { λ r. ⌜ (r ≡ length (held (length (now (out .entry))) (checkAnswer (now (frozen .entry)) (now (log .entry))))) × (now (out .exit) ≡ padded (length (now (out .entry))) (held (length (now (out .entry))) (checkAnswer (now (frozen .entry)) (now (log .entry))))) ⌝ }
+    ensures { λ r. ⌜ Leaves (now (out .entry)) (now (out .exit)) (checkAnswer (now (frozen .entry)) (now (log .entry))) r ⌝ }
 {
     let verdict = selection::check_log(frozen, log);
     slices::clear(&mut *out);
