@@ -1,5 +1,4 @@
--- The laws of this crate; what is promised of the digits stands in Digits, and of the answers' lengths in Lengths.
-pub mod Digits
+-- The laws of this crate; what is promised of the answers' lengths stands in Lengths.
 mod WroteLaws
 mod LineLaws
 mod AnswerLaws

@@ -10,8 +10,7 @@ use Rattle.columns.specs.Patterns.{codes}
 use Rattle.refusals.specs.declared.Refusal.{Refusal}
 use Rattle.refusals.specs.declared.Verdict.the-variants.{Accepted, Refused}
 use Rattle.selection.specs.declared.Picked.{Picked}
-use Rattle.answers.specs.Answers.{noLine, countLine, takeLine, takeLines, pickedText}
-use Rattle.answers.specs.Decimal.{tabbed}
+use Rattle.answers.specs.Answers.{noLine, countLine, takeLine, takeLines, pickedText, tabbed}
 use Rattle.answers.specs.Written.{Wrote}
 use Rattle.answers.proofs.WroteLaws.{wrote-nothing, wrote-then}
 

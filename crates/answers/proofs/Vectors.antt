@@ -6,11 +6,11 @@ use mathlib.Core.List.{List, [], _∷_}
 use Prim.Native.Nat.{ℕ}
 use Prim.Native.String.{String}
 use Rattle.slices.specs.Order.{order, equal}
+use Rattle.digits.specs.Decimal.{digitsBy, decimal}
 use Rattle.columns.specs.Patterns.{codes}
 use Rattle.refusals.specs.Table.{cutShort, tooManyRecords, bufferTooShort, refusal}
 use Rattle.selection.specs.Pick.{refusedBy, picked}
-use Rattle.answers.specs.Answers.{noLine, countLine, takeLine, takeLines, pickText}
-use Rattle.answers.specs.Decimal.{digitsBy, decimal, tabbed}
+use Rattle.answers.specs.Answers.{noLine, countLine, takeLine, takeLines, pickText, tabbed}
 
 same : List ℕ → String → Bool
 same bytes text = equal bytes (codes text)

@@ -13,10 +13,10 @@ use Rattle.slices.specs.Part.{part, padded}
 use Rattle.slices.proofs.Cases.{split}
 use Rattle.slices.proofs.PartLaws.{part-all}
 use Rattle.slices.proofs.WriteLaws.{sets-append, stored-front}
-use Rattle.answers.specs.Answers.{held}
-use Rattle.answers.specs.Decimal.{decimal, tabbed}
+use Rattle.digits.specs.Decimal.{decimal}
+use Rattle.digits.proofs.DecimalLaws.{Short, decimal-one, decimal-more}
+use Rattle.answers.specs.Answers.{held, tabbed}
 use Rattle.answers.specs.Written.{Wrote}
-use Rattle.answers.proofs.Digits.{Short, decimal-one, decimal-more}
 
 -- ---- pieces
 

@@ -7,6 +7,7 @@ use mathlib.Core.List.{List, [], _∷_, _++_}
 use lib.Dec.{leb}
 use lib.ListN.{length, take}
 use Rattle.slices.specs.Part.{padded}
+use Rattle.digits.specs.Decimal.{decimal}
 use Rattle.columns.specs.Patterns.{codes}
 use Rattle.refusals.specs.declared.Refusal.{Refusal}
 use Rattle.refusals.specs.declared.Verdict.{Verdict}
@@ -16,9 +17,12 @@ use Rattle.routes.specs.Sources.{records}
 use Rattle.wanted.specs.Numbers.{numbersIn}
 use Rattle.selection.specs.Pick.{Pick, refusedBy, picked, logVerdict, pickOf, filePick, newBytes}
 use Rattle.selection.specs.declared.Picked.{Picked}
-use Rattle.answers.specs.Decimal.{tabbed}
 
 -- ---- lines
+
+-- "fields parted by tabs"
+unfoldable pub tabbed : ℕ → List ℕ
+tabbed n = 9 ∷ decimal n
 
 -- "A refusal prints one line: `no`, number, place, column."
 unfoldable pub noLine : Refusal → List ℕ

@@ -1,4 +1,3 @@
 -- What the contracts of this crate cite.
-pub mod Decimal
 pub mod Written
 pub mod Answers

@@ -5,7 +5,8 @@ ghost use mathlib.Core.Bool.{cond};
 ghost use Prim.Native.Nat.{_+_, _≤_};
 ghost use lib.Dec.{leb};
 ghost use lib.ListN.{length, replicate};
-ghost use Rattle.answers.specs.Decimal.{decimal, tabbed};
+ghost use Rattle.digits.specs.Decimal.{decimal};
+ghost use Rattle.answers.specs.Answers.{tabbed};
 ghost use Rattle.answers.specs.Written.{Wrote};
 
 // Writes a word, and answers the offset behind it.

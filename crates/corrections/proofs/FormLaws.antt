@@ -9,7 +9,8 @@ use lib.Dec.{leb}
 use lib.ListN.{length, take, replicate}
 use borrow.Author.Tests.{eq-eqb, eqb-true, leb-true, le-leb}
 use Rattle.slices.proofs.Cases.{split, and-left, and-right}
-use Rattle.corrections.specs.Lines.{exactly, printable, allows, Form, ended, decimal, heading, change, reach, whole}
+use Rattle.digits.specs.Decimal.{decimal}
+use Rattle.corrections.specs.Lines.{exactly, printable, allows, Form, ended, heading, change, reach, whole}
 use Rattle.corrections.specs.Text.{Change, recordOf, letterOf, changeText, headingText, Printable, Sound}
 
 -- place by place

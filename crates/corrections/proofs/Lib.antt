@@ -1,7 +1,6 @@
 -- The laws of the crate.
 pub mod ReachLaws
 pub mod LineLaws
-pub mod DecimalLaws
 mod IndexLaws
 pub mod Turns
 pub mod FormLaws

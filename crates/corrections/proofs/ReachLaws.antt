@@ -3,16 +3,18 @@
 use mathlib.Core.Path.{_≡_, refl, sym, ap, _∙_}
 use mathlib.Core.Bool.{Bool, true, false, cond, _&&_, _||_, false≢true}
 use mathlib.Core.List.{List, [], _∷_, _++_, map}
-use Prim.Native.Nat.{ℕ, suc, _+_, _-_, _/_, _%_, _≤_, _<_}
+use Prim.Native.Nat.{ℕ, suc, _+_, _-_, _≤_, _<_}
 use native.Mathlib.Omega.{arith}
 use native.Mathlib.Decide.{decLt}
 use lib.Dec.{eqb, leb, ltb}
 use lib.ListN.{length, getD, drop, replicate, length-append, length-map, drop-of-length-le, List·getD-eq-default}
 use lib.Seq.{drop-cons}
-use borrow.Author.Tests.{ne-eqb, le-leb, lt-leb, lt-ltb, le-ltb, ltb-true, ltb-false}
+use borrow.Author.Tests.{ne-eqb, le-leb, lt-leb, ltb-true, ltb-false}
 use Rattle.slices.proofs.Cases.{split}
 use Rattle.slices.proofs.PartLaws.{one-less}
-use Rattle.corrections.specs.Lines.{Span, exactly, printable, allows, Form, ended, decimal, heading, change, reach, reachAt}
+use Rattle.digits.specs.Decimal.{decimal}
+use Rattle.digits.proofs.DecimalLaws.{decimal-width, decimal-ones, decimal-tens, decimal-hundreds}
+use Rattle.corrections.specs.Lines.{Span, exactly, printable, allows, Form, ended, heading, change, reach, reachAt}
 
 -- no further than the form, and no further than the bytes
 pub reach-within : (f : Form) (bs : List ℕ) → reach f bs ≤ length f
@@ -110,28 +112,9 @@ none-further rest e = rw e
 pub reach-short : (f : Form) (i : ℕ) (log : List ℕ) {r : ℕ} → r ≡ reachAt f i log → length f < 1000 → r < 1000
 reach-short f i log e h = omega (arith, reach-at-most f i log e)
 
--- ---- the digits of a number
+-- ---- the number of a heading
 
 module _ (n : ℕ) where
-  pub decimal-ones : n < 10 → decimal n ≡ (n % 10 + 48) ∷ []
-  unfolding decimal
-  decimal-ones h = rw (lt-ltb n 10 h)
-
-  pub decimal-tens : 10 ≤ n → n < 100 → decimal n ≡ (n / 10 % 10 + 48) ∷ (n % 10 + 48) ∷ []
-  unfolding decimal
-  decimal-tens g h = rw (le-ltb n 10 g, lt-ltb n 100 h)
-
-  pub decimal-hundreds : 100 ≤ n → decimal n ≡ (n / 100 % 10 + 48) ∷ (n / 10 % 10 + 48) ∷ (n % 10 + 48) ∷ []
-  unfolding decimal
-  decimal-hundreds g = rw (le-ltb n 10 (omega arith), le-ltb n 100 g)
-
-  -- one to three of them
-  pub decimal-width : (1 ≤ length (decimal n)) × (length (decimal n) ≤ 3)
-  unfolding decimal
-  decimal-width =
-      split (ltb n 10) (λ e. rw e (omega arith, omega arith))
-      (λ e. split (ltb n 100) (λ u. rw (e, u) (omega arith, omega arith)) (λ u. rw (e, u) (omega arith, omega arith)))
-
   pub number-width : length (map exactly (decimal n) ++ ended) ≡ length (decimal n) + 1
   number-width = length-append (map exactly (decimal n)) ended ∙ rw (length-map (decimal n) exactly)
 
@@ -139,24 +122,24 @@ module _ (n : ℕ) where
   unfolding heading
   heading-width = omega (arith, number-width)
 
-  -- from 4 to 6 bytes
+  -- below 1,000 from 4 to 6 bytes
   pub heading-ones : n < 10 → 4 ≡ length (heading n)
-  heading-ones h = sym (heading-width ∙ rw (decimal-ones h))
+  heading-ones h = sym (heading-width ∙ rw (decimal-ones n h))
 
   pub heading-tens : 10 ≤ n → n < 100 → 5 ≡ length (heading n)
-  heading-tens g h = sym (heading-width ∙ rw (decimal-tens g h))
+  heading-tens g h = sym (heading-width ∙ rw (decimal-tens n g h))
 
-  pub heading-hundreds : 100 ≤ n → 6 ≡ length (heading n)
-  heading-hundreds g = sym (heading-width ∙ rw (decimal-hundreds g))
+  pub heading-hundreds : 100 ≤ n → n < 1000 → 6 ≡ length (heading n)
+  heading-hundreds g h = sym (heading-width ∙ rw (decimal-hundreds n g h))
 
   pub number-short : length (map exactly (decimal n) ++ ended) < 1000
-  number-short = omega (arith, number-width, decimal-width .1)
+  number-short = omega (arith, number-width, decimal-width n .1)
 
   pub tab-short : length (exactly 9 ∷ (map exactly (decimal n) ++ ended)) < 1000
-  tab-short = omega (arith, number-width, decimal-width .1)
+  tab-short = omega (arith, number-width, decimal-width n .1)
 
-  pub heading-short : (4 ≤ length (heading n)) × (length (heading n) ≤ 6)
-  heading-short = (omega (arith, heading-width, decimal-width .0), omega (arith, heading-width, decimal-width .1))
+  pub heading-short : (4 ≤ length (heading n)) × (length (heading n) ≤ 23)
+  heading-short = (omega (arith, heading-width, decimal-width n .0), omega (arith, heading-width, decimal-width n .1))
 
 pub change-width : (letter : ℕ) → length (change letter) ≡ 135
 unfolding change
@@ -164,7 +147,7 @@ change-width letter = refl
 
 -- how far a heading and a D or A line can be gone along with
 module _ (i : ℕ) (log : List ℕ) {r : ℕ} where
-  pub heading-at-most : (n : ℕ) → r ≡ reachAt (heading n) i log → r ≤ 6
+  pub heading-at-most : (n : ℕ) → r ≡ reachAt (heading n) i log → r ≤ 23
   heading-at-most n e = omega (arith, reach-at-most (heading n) i log e, heading-short n .1)
 
   pub change-at-most : (letter : ℕ) → r ≡ reachAt (change letter) i log → r ≤ 135

@@ -10,9 +10,10 @@ use lib.ListN.{length, drop, length-append}
 use lib.Seq.{drop-at}
 use borrow.Author.Tests.{ne-eqb, lt-ltb, le-ltb}
 use Rattle.refusals.specs.declared.Verdict.the-variants.{Accepted}
+use Rattle.digits.specs.Decimal.{decimal}
 use Rattle.corrections.specs.declared.lines.Line.{Line}
 use Rattle.corrections.specs.declared.lines.Line.the-variants.{Heading, TakenOut, PutIn}
-use Rattle.corrections.specs.Lines.{exactly, ended, decimal, heading, change, reach, whole, lineOf}
+use Rattle.corrections.specs.Lines.{exactly, ended, heading, change, reach, whole, lineOf}
 use Rattle.corrections.specs.Reading.{Entry, entry, Reading, refused, said, lineVerdict, begunAfter, roomAfter, widthOf, entriesOf, withEntries, read, readLog}
 use Rattle.corrections.specs.Text.{Change, takeOut, putIn, letterOf, changeText, headingText, Sound, changesText, logText, EverySound, AllSound, isPut, puts, allPuts}
 use Rattle.corrections.proofs.ReachLaws.{change-width}

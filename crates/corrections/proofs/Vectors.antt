@@ -9,8 +9,9 @@ use lib.Dec.{eqb}
 use lib.ListN.{replicate}
 use Rattle.refusals.specs.Table.{refusal, stated}
 use Rattle.refusals.specs.declared.Refusal.{Refusal}
+use Rattle.digits.specs.Decimal.{decimal, digitsBy}
 use Rattle.corrections.specs.declared.Index.{Index}
-use Rattle.corrections.specs.Lines.{decimal, heading, change, forms, reach, whole, longest, lineOf}
+use Rattle.corrections.specs.Lines.{heading, change, forms, reach, whole, longest, lineOf}
 use Rattle.corrections.specs.Reading.{read, readLog, indexOf}
 
 record Vector : Type 0 where
@@ -117,18 +118,18 @@ worked : right (
     reads (first (C (50 ∷ []) then line 68 132 65 then line 65 132 66 then C (51 ∷ []) then end)) 0 3 2 ∷
     []
     ) ≡ true
-unfolding decimal heading change forms reach whole longest lineOf read readLog indexOf stops beside past reads same right C line _then_ end first ones tens twoHundred
+unfolding digitsBy decimal heading change forms reach whole longest lineOf read readLog indexOf stops beside past reads same right C line _then_ end first ones tens twoHundred
 worked = refl
 
 -- what the index holds: for each line its letter, the offset of its bytes and its correction
 held : indexOf (readLog (first (C (50 ∷ []) then line 68 132 65 then line 65 132 66 then end)) 0) .kind ≡ 68 ∷ 65 ∷ replicate 442 0
-unfolding decimal heading change forms reach whole longest lineOf read readLog indexOf C line _then_ end first
+unfolding digitsBy decimal heading change forms reach whole longest lineOf read readLog indexOf C line _then_ end first
 held = refl
 
 lies : indexOf (readLog (first (C (50 ∷ []) then line 68 132 65 then line 65 132 66 then end)) 0) .at ≡ 10 ∷ 145 ∷ replicate 442 0
-unfolding decimal heading change forms reach whole longest lineOf read readLog indexOf C line _then_ end first
+unfolding digitsBy decimal heading change forms reach whole longest lineOf read readLog indexOf C line _then_ end first
 lies = refl
 
 belongs : indexOf (readLog (first (C (50 ∷ []) then line 68 132 65 then line 65 132 66 then end)) 0) .correction ≡ 2 ∷ 2 ∷ replicate 442 0
-unfolding decimal heading change forms reach whole longest lineOf read readLog indexOf C line _then_ end first
+unfolding digitsBy decimal heading change forms reach whole longest lineOf read readLog indexOf C line _then_ end first
 belongs = refl

@@ -1,11 +1,12 @@
 -- The lines that a log may have, as forms: for each place of a line the bytes that may stand there. How far some bytes go along with a
 -- form says whether they are such a line, and from which byte on they can't be completed to one.
 -- Assumes nothing.
-use Prim.Native.Nat.{ℕ, suc, _+_, _/_, _%_, max}
+use Prim.Native.Nat.{ℕ, suc, _+_, max}
 use mathlib.Core.Bool.{Bool, cond, _&&_}
 use mathlib.Core.List.{List, [], _∷_, _++_, map}
-use lib.Dec.{eqb, leb, ltb}
+use lib.Dec.{eqb, leb}
 use lib.ListN.{length, drop, replicate}
+use Rattle.digits.specs.Decimal.{decimal}
 use Rattle.corrections.specs.declared.lines.Line.{Line}
 use Rattle.corrections.specs.declared.lines.Line.the-variants.{Heading, TakenOut, PutIn, Stopped}
 
@@ -22,18 +23,11 @@ allows printable b = leb 32 b && leb b 126
 abbrev pub Form : Type 0
 Form = List Span
 
--- a number below 1,000 in digits, "no leading zeros"
-unfoldable pub decimal : ℕ → List ℕ
-decimal n =
-    cond (ltb n 10) ((n % 10 + 48) ∷ [])
-    (cond (ltb n 100) ((n / 10 % 10 + 48) ∷ (n % 10 + 48) ∷ [])
-    ((n / 100 % 10 + 48) ∷ (n / 10 % 10 + 48) ∷ (n % 10 + 48) ∷ []))
-
 -- "each line ended by a line feed"
 abbrev pub ended : Form
 ended = exactly 10 ∷ []
 
--- "`C`, tab, number: a correction begins"
+-- "`C`, tab, number: a correction begins", "no leading zeros"
 unfoldable pub heading : ℕ → Form
 heading n = exactly 67 ∷ exactly 9 ∷ (map exactly (decimal n) ++ ended)
 

@@ -8,7 +8,7 @@ use lib.Dec.{eqb}
 use lib.ListN.{length, take, drop}
 use Rattle.refusals.specs.Table.{logLine}
 use Rattle.refusals.specs.declared.Refusal.{Refusal}
-use Rattle.corrections.specs.Lines.{decimal}
+use Rattle.digits.specs.Decimal.{decimal}
 use Rattle.corrections.specs.Reading.{Entry, Reading, refused, said}
 
 -- ---- lines

@@ -5,7 +5,8 @@ ghost use mathlib.Core.Bool.{cond};
 ghost use mathlib.Core.List.{_∷_, _++_, map};
 ghost use Prim.Native.Nat.{suc, _+_, _/_, _%_, _<_, _≤_, max};
 ghost use lib.ListN.{length, replicate};
-ghost use Rattle.corrections.specs.Lines.{exactly, printable, ended, decimal, heading, change, reachAt, lineAt};
+ghost use Rattle.digits.specs.Decimal.{decimal};
+ghost use Rattle.corrections.specs.Lines.{exactly, printable, ended, heading, change, reachAt, lineAt};
 use slices::byte_at;
 
 pub enum Line {
@@ -73,7 +74,7 @@ fn reach_hundreds(log: &[u8], i: usize, n: usize) -> usize
 
 // How far they go along with a number and the line's end.
 fn reach_number(log: &[u8], i: usize, n: usize) -> usize
-    requires { ⌜ i < 80000 ⌝ }
+    requires { ⌜ (i < 80000) × (n < 1000) ⌝ }
     ensures { λ r. ⌜ r ≡ reachAt (map exactly (decimal n) ++ ended) i (now (log .entry)) ⌝ }
 {
     if n < 10 {
@@ -87,7 +88,7 @@ fn reach_number(log: &[u8], i: usize, n: usize) -> usize
 
 // How far they go along with a tab, a number and the line's end.
 fn reach_tab_number(log: &[u8], i: usize, n: usize) -> usize
-    requires { ⌜ i < 75000 ⌝ }
+    requires { ⌜ (i < 75000) × (n < 1000) ⌝ }
     ensures { λ r. ⌜ r ≡ reachAt (exactly 9 ∷ (map exactly (decimal n) ++ ended)) i (now (log .entry)) ⌝ }
 {
     let rest = reach_number(log, i + 1, n);
@@ -96,7 +97,7 @@ fn reach_tab_number(log: &[u8], i: usize, n: usize) -> usize
 
 // How far they go along with the heading of a correction.
 fn reach_heading(log: &[u8], i: usize, n: usize) -> usize
-    requires { ⌜ i < 70000 ⌝ }
+    requires { ⌜ (i < 70000) × (n < 1000) ⌝ }
     ensures { λ r. ⌜ r ≡ reachAt (heading n) i (now (log .entry)) ⌝ }
 {
     let rest = reach_tab_number(log, i + 1, n);
@@ -140,6 +141,7 @@ fn reach_change(log: &[u8], i: usize, letter: u8) -> usize
 
 // How many bytes the heading of a correction has.
 pub(crate) fn heading_width(n: usize) -> usize
+    requires { ⌜ n < 1000 ⌝ }
     ensures { λ r. ⌜ r ≡ length (heading n) ⌝ }
 {
     if n < 10 {

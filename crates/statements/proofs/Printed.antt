@@ -5,13 +5,13 @@ use mathlib.Core.List.{List, [], _∷_, _++_}
 use Prim.Native.Nat.{ℕ}
 use lib.ListN.{length}
 use Rattle.slices.specs.Search.{firstAt}
+use Rattle.digits.specs.Decimal.{digitsBy, decimal}
 use Rattle.columns.specs.Patterns.{codes}
 use Rattle.refusals.specs.Table.{refusal}
 use Rattle.digits.specs.Digits.{isDigit, allDigits, value}
 use Rattle.wanted.specs.Numbers.{numberOf, lineNumber, numbersIn}
 use Rattle.selection.specs.Pick.{Pick, refusedBy, picked, pickOf}
-use Rattle.answers.specs.Answers.{noLine, countLine, takeLine, takeLines, pickText, pickAnswer}
-use Rattle.answers.specs.Decimal.{digitsBy, decimal, tabbed}
+use Rattle.answers.specs.Answers.{noLine, countLine, takeLine, takeLines, pickText, pickAnswer, tabbed}
 use Rattle.statements.specs.Starred.{Answer, takes, refuses, answerOf, Meets, pick, starred, frozen, log}
 use Rattle.statements.proofs.Starred.{cases}
 

@@ -6,6 +6,7 @@ use native.Mathlib.Decide.{ℕ-discrete}
 use Rattle.slices.specs.Part.{part, blank, member}
 use Rattle.slices.specs.Order.{order, equal}
 use Rattle.slices.specs.Search.{firstAt}
+use Rattle.digits.specs.Decimal.{digitsBy, decimal}
 use Rattle.columns.specs.ByteSets.{fits}
 use Rattle.columns.specs.Patterns.{codes, fitsAll}
 use Rattle.columns.specs.Rows.{stands, matches, firstOf}
@@ -28,7 +29,7 @@ use Rattle.routes.specs.Walk.{judgedNext, primaryAfter, last, walkFrom, finishe
 use Rattle.routes.specs.Files.{sizeStage, tailColumn, tailStage, fileVerdict}
 use Rattle.routes.specs.Places.{placeOf, Every}
 use Rattle.routes.specs.Legal.{lines}
-use Rattle.corrections.specs.Lines.{lineOf, whole, reach, heading, change, decimal}
+use Rattle.corrections.specs.Lines.{lineOf, whole, reach, heading, change}
 use Rattle.corrections.specs.Reading.{readLog, read}
 use Rattle.history.specs.Apply.{routeOf, touches?}
 use Rattle.history.specs.Sets.{add, numbered, lastOn, addRelied, closureTo}
@@ -43,5 +44,5 @@ use Rattle.statements.specs.Starred.{Meets, starred, leg, only, frozen, 
 
 -- Every row is met. The definitions that the rows come down to are opened, so that they compute.
 pub cases : Every Meets starred
-unfolding starred full approach _at_is_ codes leg only frozen line replaced log lines readingOf legReading nothing alone sizeColumn legOf altitudeOf distanceOf feetOf isHolding value judged judgedLeg stage companionColumn oddOne neededColumn neededOf missing blank member part terminatorOf terminatorAt inOrder numberOf nameOf among endsAtFix needed needs firstAt equal order firstBadField layoutOf kindOf firstOf matches stands fitsAll fits primary fileVerdict sizeStage tailStage tailColumn inTurn leading records walked walkFrom finished last judgedNext primaryAfter continuationStage continuationColumn awaits orderStage sequenceStage legStage legStands firstLeg pair onlyFirst neverFirst followsFix bind pickOf opened lengthStage readLog read lineOf whole reach heading change decimal wantedStage carried takenOf wants membersFrom leadingLines byCorrection ran corrected linesApplied lineApplied touched together touchedJudged withSource withoutRecord before notBefore hasPlace isRecord putAt leftOut recordAt recordWithin inUse sourcesOf sourcesTo starts placeOf operation operations closureTo addRelied lastOn numbered add touches? routeOf same? ℕ-discrete
+unfolding starred full approach _at_is_ codes leg only frozen line replaced log lines readingOf legReading nothing alone sizeColumn legOf altitudeOf distanceOf feetOf isHolding value judged judgedLeg stage companionColumn oddOne neededColumn neededOf missing blank member part terminatorOf terminatorAt inOrder numberOf nameOf among endsAtFix needed needs firstAt equal order firstBadField layoutOf kindOf firstOf matches stands fitsAll fits primary fileVerdict sizeStage tailStage tailColumn inTurn leading records walked walkFrom finished last judgedNext primaryAfter continuationStage continuationColumn awaits orderStage sequenceStage legStage legStands firstLeg pair onlyFirst neverFirst followsFix bind pickOf opened lengthStage readLog read lineOf whole reach heading change digitsBy decimal wantedStage carried takenOf wants membersFrom leadingLines byCorrection ran corrected linesApplied lineApplied touched together touchedJudged withSource withoutRecord before notBefore hasPlace isRecord putAt leftOut recordAt recordWithin inUse sourcesOf sourcesTo starts placeOf operation operations closureTo addRelied lastOn numbered add touches? routeOf same? ℕ-discrete
 cases = (refl, (refl, (refl, (refl, (refl, (refl, (refl, (refl, (refl, (refl, (refl, (refl, (refl, (refl, (refl, (refl, (refl, (refl, (refl, (refl, (refl, tt)))))))))))))))))))))

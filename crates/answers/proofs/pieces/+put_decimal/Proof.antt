@@ -1,5 +1,5 @@
 -- The measure is the number. Assumes nothing.
-use Rattle.answers.proofs.Digits.{Short}
+use Rattle.digits.proofs.DecimalLaws.{Short}
 use Rattle.answers.proofs.WroteLaws.{wrote-digit, wrote-digits, room-in-front}
 use borrow.Author.Needs.{needs}
 use native.Mathlib.Omega.{arith}

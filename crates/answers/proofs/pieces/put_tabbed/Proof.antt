@@ -1,5 +1,5 @@
--- A number of 64 bits has at most 20 digits. Assumes nothing.
-use Rattle.answers.proofs.Digits.{Short, length-decimal}
+-- A number has at most 20 digits. Assumes nothing.
+use Rattle.digits.proofs.DecimalLaws.{decimal-width}
 use Rattle.answers.proofs.WroteLaws.{wrote-tabbed}
 use native.Mathlib.Omega.{arith}
 use borrow.Author.Needs.{needs}
@@ -16,7 +16,7 @@ put-decimal-requires : tie.Need-put-decimal-requires
 put-decimal-requires c κs =
     let start = c .before .before .before .before .before .before in
     let n = start .args .n in
-    let few = length-decimal n (let s : Short n = search needs in s) in
+    let few = decimal-width n .1 in
     omega (arith, few, start .pre)
 
 same-length : tie.Need-same-length
@@ -28,7 +28,7 @@ returns c =
     let put = called .before .before .before .before in
     let start = put .before .before .before in
     let n = start .args .n in
-    let few = length-decimal n (let s : Short n = search needs in s) in
+    let few = decimal-width n .1 in
     (wrote-tabbed _ (put .put-after .ensures) (called .put-decimal .ensures), omega (arith, few, called .put-decimal .ensures .stops))
 
 pub put-tabbed-spec : {M : Type 1} → statement M

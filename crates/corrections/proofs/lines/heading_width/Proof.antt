@@ -10,7 +10,7 @@ returns-2 : tie.Need-returns-2
 returns-2 c = heading-tens _ (c .before .if1 .left) (c .if2 .taken)
 
 returns-3 : tie.Need-returns-3
-returns-3 c = heading-hundreds _ (c .if2 .left)
+returns-3 c = heading-hundreds _ (c .if2 .left) (c .before .before .pre)
 
 pub heading-width-spec : {M : Type 1} → statement M
 heading-width-spec = tie.close (tie.spec returns returns-2 returns-3)

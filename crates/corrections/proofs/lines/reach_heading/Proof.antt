@@ -2,7 +2,8 @@
 use mathlib.Core.Path.{refl}
 use mathlib.Core.List.{_∷_, _++_, map}
 use lib.Dec.{lit<}
-use Rattle.corrections.specs.Lines.{exactly, ended, decimal, heading}
+use Rattle.digits.specs.Decimal.{decimal}
+use Rattle.corrections.specs.Lines.{exactly, ended, heading}
 use Rattle.corrections.proofs.ReachLaws.{along, reach-short, tab-short}
 use borrow.Author.Needs.{needs}
 use Rattle.corrections.proofs.lines.reach_heading.Statement.{statement}

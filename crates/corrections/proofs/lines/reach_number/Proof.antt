@@ -1,5 +1,5 @@
 -- By the number of digits. Assumes nothing.
-use Rattle.corrections.proofs.ReachLaws.{decimal-ones, decimal-tens, decimal-hundreds}
+use Rattle.digits.proofs.DecimalLaws.{decimal-ones, decimal-tens, decimal-hundreds}
 use borrow.Author.Needs.{needs}
 use Rattle.corrections.proofs.lines.reach_number.Statement.{statement}
 use Rattle.corrections.proofs.lines.reach_number.Tie as tie
@@ -20,7 +20,7 @@ reach-hundreds-requires : tie.Need-reach-hundreds-requires
 reach-hundreds-requires c κs = search needs
 
 returns-3 : tie.Need-returns-3
-returns-3 c = rw (decimal-hundreds _ (c .before .if2 .left)) (c .reach-hundreds .ensures)
+returns-3 c = rw (decimal-hundreds _ (c .before .if2 .left) (c .before .before .before .before .pre .1)) (c .reach-hundreds .ensures)
 
 pub reach-number-spec : {M : Type 1} → statement M
 reach-number-spec =

@@ -2,7 +2,8 @@
 use mathlib.Core.Path.{refl}
 use mathlib.Core.List.{_++_, map}
 use lib.Dec.{lit<}
-use Rattle.corrections.specs.Lines.{exactly, ended, decimal}
+use Rattle.digits.specs.Decimal.{decimal}
+use Rattle.corrections.specs.Lines.{exactly, ended}
 use Rattle.corrections.proofs.ReachLaws.{along, reach-short, number-short}
 use borrow.Author.Needs.{needs}
 use Rattle.corrections.proofs.lines.reach_tab_number.Statement.{statement}

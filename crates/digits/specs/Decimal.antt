@@ -1,4 +1,4 @@
--- A number in ASCII digits, without leading zeros.
+-- A number written in ASCII digits, without leading zeros.
 -- Assumes nothing.
 use Prim.Native.Nat.{ℕ, zero, suc, _+_, _/_, _%_}
 use mathlib.Core.Bool.{cond}
@@ -13,7 +13,3 @@ digitsBy (suc most) n = cond (ltb n 10) ((n + 48) ∷ []) (digitsBy most (n / 10
 -- a number below 100,000,000,000,000,000,000, so any of 64 bits, has at most 20 digits
 unfoldable pub decimal : ℕ → List ℕ
 decimal n = digitsBy 20 n
-
--- "fields parted by tabs"
-unfoldable pub tabbed : ℕ → List ℕ
-tabbed n = 9 ∷ decimal n
