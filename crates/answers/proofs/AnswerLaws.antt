@@ -19,12 +19,12 @@ use Rattle.refusals.specs.declared.Verdict.the-variants.{Accepted, Refused}
 use Rattle.wanted.specs.Numbers.{numbersIn, listed, wantedOf}
 use Rattle.wanted.specs.declared.Wanted.{Wanted}
 use Rattle.routes.specs.Legal.{lines}
-use Rattle.routes.specs.Sources.{recordAt, records, sourcesTo, sourcesOf}
+use Rattle.routes.specs.Sources.{recordAt, records, sourcesOf, sourcesFor}
 use Rattle.routes.specs.declared.Sources.{Sources}
 use Rattle.routes.proofs.Lines.{length-lines}
 use Rattle.corrections.specs.Reading.{Reading, refused, said, readLog, indexOf}
 use Rattle.corrections.specs.declared.Index.{Index}
-use Rattle.applying.specs.Bounds.{sourcesFor}
+use Rattle.routes.proofs.SourceLaws.{own-count}
 use Rattle.selection.specs.Pick.{Pick, refusedBy, picked, logVerdict, pickOf, filePick, newRecords, newBytes, pickedAs}
 use Rattle.selection.specs.declared.Picked.{Picked}
 use Rattle.selection.proofs.Demand.{picked-demand}
@@ -134,9 +134,9 @@ count-said (said n es) = refl
 module _ (f l : List ℕ) {v : Verdict} (e : v ≡ logVerdict f l) where
   pub check-accepted : v ≡ Accepted → {s : Sources} {i : Index} → s ≡ sourcesOf f → i ≡ indexOf (readLog l (s .count))
       → countLine (111 ∷ 107 ∷ []) (s .count) (i .corrections) ≡ checkAnswer f l
-  unfolding checkAnswer sourcesOf sourcesTo codes
+  unfolding checkAnswer codes
   check-accepted a {s} {i} p q =
-      let c : s .count ≡ length (records f) = ap (λ (x : Sources). x .count) p in
+      let c : s .count ≡ length (records f) = own-count f p .0 in
       let n : i .corrections ≡ correctionCount (readLog l (length (records f))) =
       ap (λ (x : Index). x .corrections) q ∙ count-said (readLog l (s .count)) ∙ ap (λ (k : ℕ). correctionCount (readLog l k)) c in
       rw (sym e ∙ a, c, n)

@@ -18,13 +18,13 @@ use Rattle.refusals.specs.declared.Verdict.the-variants.{Accepted, Refused}
 use Rattle.refusals.proofs.VerdictLaws.{never}
 use Rattle.corrections.specs.declared.Index.{Index}
 use Rattle.routes.specs.InTurn.{inTurn}
-use Rattle.routes.specs.Sources.{inUse}
+use Rattle.routes.specs.Sources.{inUse, sourcesFor}
 use Rattle.routes.specs.declared.Sources.{Sources}
 use Rattle.history.specs.Sets.{Numbers}
 use Rattle.applying.specs.Apply.{Within, entriesFrom}
 use Rattle.applying.specs.Correct.{Outcome, stopped, Comes}
 use Rattle.applying.specs.Run.{byCorrection, ran}
-use Rattle.applying.specs.Bounds.{allWithin, boundStage, ranOver, sourcesFor, ranAs}
+use Rattle.applying.specs.Bounds.{allWithin, boundStage, ranOver, ranAs}
 use Rattle.applying.specs.declared.Ran.{Ran}
 use Rattle.applying.specs.declared.correct.Corrected.{Corrected}
 use Rattle.applying.proofs.RunLaws.{came-refused, came-stands}

@@ -4,14 +4,12 @@ use Prim.Native.Nat.{ℕ}
 use mathlib.Core.Bool.{Bool, true, cond, _&&_}
 use mathlib.Core.List.{List, [], _∷_}
 use lib.Dec.{leb}
-use lib.ListN.{length}
-use Rattle.slices.specs.Part.{padded}
 use Rattle.refusals.specs.Table.{tooManyRecords, logTooLong}
 use Rattle.refusals.specs.declared.Verdict.{Verdict}
 use Rattle.refusals.specs.declared.Verdict.the-variants.{Accepted, Refused}
 use Rattle.corrections.specs.declared.Index.{Index}
 use Rattle.routes.specs.InTurn.{inTurn}
-use Rattle.routes.specs.Sources.{inUse}
+use Rattle.routes.specs.Sources.{inUse, sourcesFor}
 use Rattle.routes.specs.declared.Sources.{Sources}
 use Rattle.history.specs.Sets.{Numbers}
 use Rattle.applying.specs.Apply.{entriesFrom}
@@ -43,9 +41,6 @@ ranOver frozen log T index state =
     (ran frozen log T 1 (byCorrection 1 (index .corrections) (entriesFrom index 0 (index .count))) (inUse state))
 
 -- ---- as the code gives it
-
-unfoldable pub sourcesFor : List ℕ → Sources
-sourcesFor xs = record { count = length xs; at = padded 480 xs }
 
 unfoldable pub ranAs : Outcome → Ran
 ranAs (stopped r) = record { verdict = Refused r; records = sourcesFor [] }

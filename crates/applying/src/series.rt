@@ -3,12 +3,12 @@
 ghost use mathlib.Core.Path.{_≡_};
 ghost use mathlib.Core.Bool.{cond};
 ghost use Prim.Native.Nat.{_+_, _-_, _≤_};
-ghost use Rattle.routes.specs.Sources.{inUse};
+ghost use Rattle.routes.specs.Sources.{inUse, sourcesFor};
 ghost use Rattle.applying.specs.Apply.{Within, entriesFrom};
 ghost use Rattle.applying.specs.Correct.{Comes, corrected, stopped, reached};
 ghost use Rattle.applying.specs.Run.{leading, byCorrection, ran, marked};
 ghost use Rattle.applying.specs.Known.{Known};
-ghost use Rattle.applying.specs.Bounds.{boundStage, sourcesFor, ranAs};
+ghost use Rattle.applying.specs.Bounds.{boundStage, ranAs};
 use crate::Ran;
 use crate::correct::Corrected;
 use crate::correct::correct;

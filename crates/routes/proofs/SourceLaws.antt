@@ -11,7 +11,7 @@ use lib.ListN.{length, getD, take, drop, set, replicate, length-take, length-dro
 use lib.Seq.{set-at, append-snoc, take-at, getD-drop, getD-take, drop-drop, drop-cons, take-all}
 use borrow.Author.Tests.{le-leb, lt-leb, lt-ltb, le-ltb, eq-eqb, ne-eqb, eqb-true}
 use Rattle.slices.proofs.Cases.{split}
-use Rattle.routes.specs.Sources.{recordWithin, recordAt, inUse, recordsIn, leading, records, starts, sourcesTo, sourcesOf}
+use Rattle.routes.specs.Sources.{recordWithin, recordAt, inUse, recordsIn, leading, records, starts, sourcesFor, sourcesTo, sourcesOf}
 use Rattle.routes.specs.Walk.{last}
 use Rattle.routes.specs.declared.Sources.{Sources}
 
@@ -73,14 +73,24 @@ starts-next at (suc n) =
     let e : at + 133 + n * 133 ≡ at + suc n * 133 = omega arith in
     ap (λ (t : List ℕ). at ∷ t) (starts-next (at + 133) n ∙ rw e)
 
+-- by the number of them
+abbrev counted : ℕ → Sources
+counted n = record { count = n; at = starts 0 n ++ replicate (480 - n) 0 }
+
+by-count : (n : ℕ) → sourcesTo n ≡ counted n
+unfolding sourcesTo sourcesFor
+by-count n = ap (λ (k : ℕ). record { count = k; at = starts 0 n ++ replicate (480 - k) 0 }) (length-starts 0 n)
+
 -- the sources with one more stored
-pub sources-next : (i : ℕ) (s : Sources) → i < 480 → s ≡ sourcesTo i → record { count = i + 1; at = set (s .at) i (i * 133) } ≡ sourcesTo (i + 1)
-unfolding sourcesTo
-sources-next i s h e =
+one-stored : (i : ℕ) (s : Sources) → i < 480 → s ≡ counted i → record { count = i + 1; at = set (s .at) i (i * 133) } ≡ counted (i + 1)
+one-stored i s h e =
     let m : 480 - i ≡ suc (480 - suc i) = omega arith in
     let z : 0 + i * 133 ≡ i * 133 = omega arith in
     rw (e, add-one, m, set-at (starts 0 i) 0 (replicate (480 - suc i) 0) (i * 133) i (length-starts 0 i), starts-next 0 i, z)
     (ap (λ (t : List ℕ). record { count = suc i; at = t }) (sym (append-snoc (starts 0 i) (i * 133) (replicate (480 - suc i) 0))))
+
+pub sources-next : (i : ℕ) (s : Sources) → i < 480 → s ≡ sourcesTo i → record { count = i + 1; at = set (s .at) i (i * 133) } ≡ sourcesTo (i + 1)
+sources-next i s h e = one-stored i s h (e ∙ by-count i) ∙ sym (by-count (i + 1))
 
 -- the records of a file, of which i are passed
 module _ (f : List ℕ) (i : ℕ) where
@@ -128,7 +138,7 @@ module _ (f l : List ℕ) (s : Sources) (long : length (s .at) ≡ 480) (to i : 
       rw (add-one, drop-cons (take to (take (s .count) (s .at))) i 0 q, getD-take to (take (s .count) (s .at)) i 0 (omega arith), getD-take (s .count) (s .at) i 0 (omega arith))
 
 pub sources-start : record { count = 0; at = replicate 480 0 } ≡ sourcesTo 0
-unfolding sourcesTo starts
+unfolding sourcesTo sourcesFor starts
 sources-start = refl
 
 pub one-more : (i m n : ℕ) → m ≡ suc n → i + m ≡ i + 1 + n
@@ -169,10 +179,10 @@ own-from f l (suc m) at h =
     (λ e. rw e)
 
 pub own-records : (f l : List ℕ) → recordsIn f l (sourcesOf f) 0 (sourcesOf f .count) ≡ records f
-unfolding recordsIn inUse sourcesOf sourcesTo records
+unfolding recordsIn inUse sourcesOf records
 own-records f l =
     let n = length (leading 480 f) in
-    rw (take-at (starts 0 n) (replicate (480 - n) 0) n (length-starts 0 n), take-all n (starts 0 n) (omega (arith, length-starts 0 n)))
+    rw (by-count n, take-at (starts 0 n) (replicate (480 - n) 0) n (length-starts 0 n), take-all n (starts 0 n) (omega (arith, length-starts 0 n)))
     (own-from f l 480 0 (omega arith))
 
 pub at-most : (n : ℕ) (f : List ℕ) → length (leading n f) ≤ n
@@ -182,8 +192,8 @@ at-most (suc n) f =
     split (eqb (getD f 132 0) 10) (λ e. rw e (omega (arith, at-most n (drop 133 f)))) (λ e. rw e (omega arith))
 
 pub own-count : (f : List ℕ) {s : Sources} → s ≡ sourcesOf f → (s .count ≡ length (records f)) × (s .count ≤ 480)
-unfolding sourcesOf sourcesTo records
-own-count f e = (ap count-of e, rw e (at-most 480 f))
+unfolding sourcesOf records
+own-count f {s} e = (own, rw own (at-most 480 f))
   where
-    count-of : Sources → ℕ
-    count-of s = s .count
+    own : s .count ≡ length (leading 480 f)
+    own = ap (λ (t : Sources). t .count) (e ∙ by-count (length (leading 480 f)))

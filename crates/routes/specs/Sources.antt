@@ -2,9 +2,10 @@
 -- Assumes nothing.
 use Prim.Native.Nat.{ℕ, zero, suc, _+_, _-_}
 use mathlib.Core.Bool.{cond}
-use mathlib.Core.List.{List, [], _∷_, _++_, map}
+use mathlib.Core.List.{List, [], _∷_, map}
 use lib.Dec.{eqb, leb, ltb}
-use lib.ListN.{length, getD, take, drop, replicate}
+use lib.ListN.{length, getD, take, drop}
+use Rattle.slices.specs.Part.{padded}
 use Rattle.routes.specs.declared.Sources.{Sources}
 
 -- the 132 bytes from an offset on; nothing where they do not lie wholly within
@@ -34,9 +35,13 @@ unfoldable pub starts : ℕ → ℕ → List ℕ
 starts at zero = []
 starts at (suc n) = at ∷ starts (at + 133) n
 
--- the sources of a file of n records; zeros past the count
+-- some sources; zeros past the count
+unfoldable pub sourcesFor : List ℕ → Sources
+sourcesFor xs = record { count = length xs; at = padded 480 xs }
+
+-- those of a file of n records
 unfoldable pub sourcesTo : ℕ → Sources
-sourcesTo n = record { count = n; at = starts 0 n ++ replicate (480 - n) 0 }
+sourcesTo n = sourcesFor (starts 0 n)
 
 unfoldable pub sourcesOf : List ℕ → Sources
 sourcesOf f = sourcesTo (length (records f))

@@ -18,9 +18,8 @@ use Rattle.refusals.specs.declared.Verdict.the-variants.{Accepted}
 use Rattle.routes.specs.Files.{fileVerdict}
 use Rattle.routes.specs.Legal.{lines, Wide}
 use Rattle.routes.specs.Places.{Every}
-use Rattle.routes.specs.Sources.{recordWithin, recordAt}
+use Rattle.routes.specs.Sources.{recordWithin, recordAt, sourcesFor}
 use Rattle.routes.proofs.Lines.{length-lines}
-use Rattle.applying.specs.Bounds.{sourcesFor}
 use Rattle.selection.specs.Pick.{Pick, refusedBy, picked, pickOf, newRecords, newBytes, lineIn, filePick, pickedAs}
 use Rattle.selection.proofs.Demand.{picked-demand}
 use Rattle.selection.proofs.StoredLaws.{in-use-all}

@@ -14,12 +14,11 @@ use Rattle.refusals.specs.Table.{bufferTooShort}
 use Rattle.refusals.specs.declared.Refusal.{Refusal}
 use Rattle.routes.specs.Legal.{lines, Wide}
 use Rattle.routes.specs.Places.{Every}
-use Rattle.routes.specs.Sources.{recordAt, inUse}
+use Rattle.routes.specs.Sources.{recordAt, inUse, sourcesFor}
 use Rattle.routes.specs.declared.Sources.{Sources}
 use Rattle.routes.proofs.Lines.{length-lines}
 use Rattle.selection.specs.Pick.{Pick, refusedBy, picked, pickOf, newRecords, newBytes, filePick, pickedAs, stored}
 use Rattle.selection.specs.declared.Picked.{Picked}
-use Rattle.applying.specs.Bounds.{sourcesFor}
 use Rattle.applying.proofs.StateLaws.{in-use-length}
 use Rattle.selection.proofs.Demand.{picked-demand}
 

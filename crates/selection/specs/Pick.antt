@@ -18,9 +18,8 @@ use Rattle.corrections.specs.declared.Index.{Index}
 use Rattle.routes.specs.Files.{fileVerdict}
 use Rattle.routes.specs.InTurn.{inTurn}
 use Rattle.routes.specs.Legal.{lines}
-use Rattle.routes.specs.Sources.{recordAt, records, sourcesOf, inUse}
+use Rattle.routes.specs.Sources.{recordAt, records, sourcesOf, inUse, sourcesFor}
 use Rattle.routes.specs.declared.Sources.{Sources}
-use Rattle.applying.specs.Bounds.{sourcesFor}
 use Rattle.applying.specs.Correct.{Outcome, stopped, reached}
 use Rattle.applying.specs.Run.{byCorrection, ran}
 use Rattle.applying.specs.Procedures.{procedures, operations}

@@ -1,6 +1,7 @@
 -- Put together as the definition says. Assumes nothing.
 use mathlib.Core.Path.{refl}
-use Rattle.applying.specs.Bounds.{sourcesFor, ranAs}
+use Rattle.routes.specs.Sources.{sourcesFor}
+use Rattle.applying.specs.Bounds.{ranAs}
 use Rattle.applying.proofs.series.refused_run.Statement.{statement}
 use Rattle.applying.proofs.series.refused_run.Tie as tie
 

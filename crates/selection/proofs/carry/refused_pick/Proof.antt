@@ -1,6 +1,6 @@
 -- Put together as the definition says. Assumes nothing.
 use mathlib.Core.Path.{refl}
-use Rattle.applying.specs.Bounds.{sourcesFor}
+use Rattle.routes.specs.Sources.{sourcesFor}
 use Rattle.selection.specs.Pick.{pickedAs}
 use Rattle.selection.proofs.carry.refused_pick.Statement.{statement}
 use Rattle.selection.proofs.carry.refused_pick.Tie as tie
