@@ -15,10 +15,12 @@ use Rattle.slices.specs.Part.{part}
 use Rattle.slices.proofs.Cases.{split}
 use Rattle.slices.proofs.PartLaws.{part-all}
 use Rattle.columns.specs.Words.{ContinuationContent}
+use Rattle.columns.specs.Kinds.{kindOf}
 use Rattle.columns.specs.declared.Kind.{Kind}
 use Rattle.columns.specs.declared.Kind.the-variants as kind
 use Rattle.columns.proofs.Content.{primary-kind, continuation-kind}
 use Rattle.refusals.specs.Table.{cutShort, bufferTooShort}
+use Rattle.refusals.specs.declared.Refusal.{Refusal}
 use Rattle.refusals.specs.declared.Verdict.{Verdict}
 use Rattle.refusals.specs.declared.Verdict.the-variants.{Accepted, Refused}
 use Rattle.leg.specs.Judge.{judged}
@@ -26,10 +28,11 @@ use Rattle.leg.specs.Legal.{LegalLeg, Legal}
 use Rattle.leg.proofs.Legality.{accepted-iff, stage-iff}
 use Rattle.fields.specs.Leg.{legOf, legPieces, renderLeg}
 use Rattle.fields.specs.Continuation.{continuationOf, contentOf, continuationPieces, renderContinuation}
-use Rattle.parts.specs.Record.{sizeColumn, columnsOf, alone, legReading, continuationReading, readingOf, writing, writtenBy, written}
+use Rattle.parts.specs.Record.{sizeColumn, columnsOf, alone, nothing, readingBy, readingByKind, legReading, continuationReading, readingOf, writing, writtenBy, written}
 use Rattle.fields.specs.declared.primary.Leg.{Leg}
 use Rattle.fields.specs.declared.continuation.Continuation.{Continuation}
 use Rattle.parts.specs.declared.Parts.the-variants as parts
+use Rattle.parts.specs.declared.Reading.{Reading}
 use Rattle.fields.proofs.PieceLaws.{length-made}
 use Rattle.fields.proofs.RoundTrip.{leg-round, continuation-round, leg-again, continuation-again, leg-kind, continuation-not-primary}
 
@@ -190,3 +193,74 @@ continuation-written-read c content n k h e =
     let a = continuation-again c content k l in
     continuation-read rec (take 133 (written n rec)) (length-continuation c content, first-record n rec (length-continuation c content) e) l
     ∙ (λ j. record { verdict = Accepted; parts = parts.Continuation (a .0 j); content = a .1 j })
+
+-- ---- reading, and writing what was read
+
+-- the verdict of a reading is that of the record alone
+pub reading-verdict : (s : List ℕ) → readingOf s .verdict ≡ alone s
+unfolding readingOf nothing legReading continuationReading
+reading-verdict s = by (alone s)
+  where
+    kinds : (k : Kind) (rec : List ℕ) → readingByKind k rec .verdict ≡ Accepted
+    kinds kind.Primary rec = refl
+    kinds kind.Continuation rec = refl
+
+    by : (v : Verdict) → readingBy v (columnsOf s) .verdict ≡ v
+    by Accepted = kinds (kindOf (columnsOf s)) (columnsOf s)
+    by (Refused r) = refl
+
+-- a slice is read exactly when it is a legal record and its line feed
+pub reading-iff : (s : List ℕ) → (readingOf s .verdict ≡ Accepted) ↔ ((rec : List ℕ) × Alone rec s × Legal rec)
+reading-iff s = subst (λ (v : Verdict). (v ≡ Accepted) ↔ ((rec : List ℕ) × Alone rec s × Legal rec)) (sym (reading-verdict s)) (read-iff s)
+
+-- a slice that was read as a record, and the record that its parts make
+module _ (s rec : List ℕ) (n : ℕ) (a : Alone rec s) (h : 133 ≤ n) (l : Legal rec) where
+  again : (made : List ℕ) → made ≡ rec → (writing n made ≡ Accepted) × (written n made ≡ s ++ replicate (n - 133) 0)
+  unfolding writtenBy
+  again made e =
+      let w : writing n made ≡ Accepted = writing-iff n made h .1 (subst Legal (sym e) l) in
+      let z : List ℕ = replicate (n - 133) 0 in
+      (w, ap (λ (v : Verdict). writtenBy v n made) w ∙ ap (λ (x : List ℕ). x ++ (10 ∷ z)) e ∙ sym (append-assoc rec (10 ∷ []) z) ∙ ap (λ (x : List ℕ). x ++ z) (sym (a .1)))
+
+-- what was read as a leg, written again, is the same bytes, and zeros past them
+pub leg-read-written : (s : List ℕ) (g : Leg) (content : List ℕ) (n : ℕ)
+    → readingOf s ≡ record { verdict = Accepted; parts = parts.Leg g; content = content } → 133 ≤ n
+    → (writing n (renderLeg g) ≡ Accepted) × (written n (renderLeg g) ≡ s ++ replicate (n - 133) 0)
+leg-read-written s g content n e h = by (reading-iff s .0 (ap (λ (x : Reading). x .verdict) e))
+  where
+    same : {x y : Leg} → parts.Leg x ≡ parts.Leg y → x ≡ y
+    same q = cc
+
+    other : {c : Continuation} → parts.Continuation c ≡ parts.Leg g → ⊥
+    other q = let z : _≡_ {A = ℕ} 0 1 = cc in omega arith
+
+    by : (rec : List ℕ) × Alone rec s × Legal rec → (writing n (renderLeg g) ≡ Accepted) × (written n (renderLeg g) ≡ s ++ replicate (n - 133) 0)
+    by (rec, a, inl l) =
+        let q : legOf rec ≡ g = same (ap (λ (x : Reading). x .parts) (sym (leg-read rec s a l) ∙ e)) in
+        again s rec n a h (inl l) (renderLeg g) (leg-only g rec (a .0, l, q))
+    by (rec, a, inr c) = absurd (other (ap (λ (x : Reading). x .parts) (sym (continuation-read rec s a c) ∙ e)))
+
+-- and so is what was read as a continuation, with its 83 bytes
+pub continuation-read-written : (s : List ℕ) (c : Continuation) (content : List ℕ) (n : ℕ)
+    → readingOf s ≡ record { verdict = Accepted; parts = parts.Continuation c; content = content } → 133 ≤ n
+    → (writing n (renderContinuation c content) ≡ Accepted) × (written n (renderContinuation c content) ≡ s ++ replicate (n - 133) 0)
+continuation-read-written s c content n e h = by (reading-iff s .0 (ap (λ (x : Reading). x .verdict) e))
+  where
+    same : {x y : Continuation} → parts.Continuation x ≡ parts.Continuation y → x ≡ y
+    same q = cc
+
+    other : {g : Leg} → parts.Leg g ≡ parts.Continuation c → ⊥
+    other q = let z : _≡_ {A = ℕ} 0 1 = cc in omega arith
+
+    by : (rec : List ℕ) × Alone rec s × Legal rec
+        → (writing n (renderContinuation c content) ≡ Accepted) × (written n (renderContinuation c content) ≡ s ++ replicate (n - 133) 0)
+    by (rec, a, inl l) = absurd (other (ap (λ (x : Reading). x .parts) (sym (leg-read rec s a l) ∙ e)))
+    by (rec, a, inr l) =
+        let r = sym (continuation-read rec s a l) ∙ e in
+        let q : continuationOf rec ≡ c = same (ap (λ (x : Reading). x .parts) r) in
+        again s rec n a h (inr l) (renderContinuation c content) (continuation-only c content rec (a .0, l, q, ap (λ (x : Reading). x .content) r))
+
+-- on every refusal of writing, 14, 3, 4 or 5, the buffer is nothing but zeros
+pub nothing-written : (n : ℕ) (rec : List ℕ) (r : Refusal) → writing n rec ≡ Refused r → written n rec ≡ replicate n 0
+unfolding writtenBy
+nothing-written n rec r e = ap (λ (v : Verdict). writtenBy v n rec) e

@@ -26,6 +26,7 @@ use Rattle.routes.specs.Walk.{walked}
 use Rattle.routes.specs.Files.{fileVerdict}
 use Rattle.routes.specs.Places.{keyOf, sequenceOf, Before, Every, Rising}
 use Rattle.routes.specs.Legal.{Leg, Route, recordsOfLegs, recordsOfRoutes, numbers, RightLeg, Neighbours, Follows, RightRoute, RightRoutes, lines, LegalFile}
+use Rattle.routes.proofs.PairLaws.{first-leg-iff, pair-iff}
 use Rattle.routes.proofs.Steps.{Next, begins, follows, continues, Rest, done, more, walked-iff}
 use Rattle.routes.proofs.PlaceLaws.{nothing-before, not-nothing, continuation-number, rising-cons}
 use Rattle.routes.proofs.Routes.{after-primary, after-continuation, rest-at, none-awaited, after-none}
@@ -279,25 +280,25 @@ record Others (f : Leg) (ls : List Leg) : Type 0 where
   rising : Rising (map (λ l. sequenceOf (l .primary)) (f ∷ ls))
   pairs : Neighbours Follows (f ∷ ls)
 
-legs-to : (f : Leg) (ls : List Leg) → LegsAfter (f .primary) ls → Others f ls
-legs-to f [] x = record { legs = tt; together = tt; rising = (tt, tt); pairs = tt }
-legs-to f (l ∷ ls) (w, k, q, u, x) =
-    let i = legs-to l ls x in
+legs-to : (f : Leg) (ls : List Leg) → LegalLeg (f .primary) → LegsAfter (f .primary) ls → Others f ls
+legs-to f [] h x = record { legs = tt; together = tt; rising = (tt, tt); pairs = tt }
+legs-to f (l ∷ ls) h (w, k, q, u, x) =
+    let i = legs-to l ls (w .0) x in
     record {
       legs = (whole-iff l .0 w, i .legs);
       together = (k, every-same (keyOf (f .primary)) (keyOf (l .primary)) ls k (i .together));
       rising = rising-cons (sequenceOf (f .primary)) (sequenceOf (l .primary)) (map (λ m. sequenceOf (m .primary)) ls) q (i .rising);
-      pairs = (u, i .pairs);
+      pairs = (pair-iff f l h (w .0) .0 u, i .pairs);
     }
 
-legs-from : (f : Leg) (ls : List Leg) → Others f ls → LegsAfter (f .primary) ls
-legs-from f [] o = tt
-legs-from f (l ∷ ls) o = (
+legs-from : (f : Leg) (ls : List Leg) → LegalLeg (f .primary) → Others f ls → LegsAfter (f .primary) ls
+legs-from f [] h o = tt
+legs-from f (l ∷ ls) h o = (
   whole-iff l .1 (o .legs .0),
   o .together .0,
   o .rising .0 .0,
-  o .pairs .0,
-  legs-from l ls (record {
+  pair-iff f l h (o .legs .0 .legal) .1 (o .pairs .0),
+  legs-from l ls (o .legs .0 .legal) (record {
     legs = o .legs .1;
     together = every-same (keyOf (l .primary)) (keyOf (f .primary)) ls (sym (o .together .0)) (o .together .1);
     rising = o .rising .1;
@@ -307,8 +308,14 @@ legs-from f (l ∷ ls) o = (
 
 route-to : (r : Route) → Whole (r .first) → firstLeg (r .first .primary) ≡ true → LegsAfter (r .first .primary) (r .others) → RightRoute r
 route-to r w u x =
-    let i = legs-to (r .first) (r .others) x in
-    record { legs = (whole-iff (r .first) .0 w, i .legs); together = i .together; rising = i .rising; begins = u; pairs = i .pairs }
+    let i = legs-to (r .first) (r .others) (w .0) x in
+    record {
+      legs = (whole-iff (r .first) .0 w, i .legs);
+      together = i .together;
+      rising = i .rising;
+      begins = first-leg-iff (r .first .primary) (w .0) .0 u;
+      pairs = i .pairs;
+    }
 
 -- ---- routes
 
@@ -323,8 +330,8 @@ routes-from k [] e u = tt
 routes-from k (r ∷ rs) (x, e) u = (
   whole-iff (r .first) .1 (x .legs .0),
   u .0 .0,
-  x .begins,
-  legs-from (r .first) (r .others) (record { legs = x .legs .1; together = x .together; rising = x .rising; pairs = x .pairs }),
+  first-leg-iff (r .first .primary) (x .legs .0 .legal) .1 (x .begins),
+  legs-from (r .first) (r .others) (x .legs .0 .legal) (record { legs = x .legs .1; together = x .together; rising = x .rising; pairs = x .pairs }),
   routes-from (keyOf (r .first .primary)) rs e (u .1),
 )
 

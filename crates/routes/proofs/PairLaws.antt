@@ -1,6 +1,6 @@
 -- Laws of the pair rules: the code's table holds, for each terminator, what the definitions say of it; and the definitions in words.
 -- Assumes nothing.
-use mathlib.Core.Path.{_≡_, refl, sym, _∙_}
+use mathlib.Core.Path.{_≡_, refl, sym, subst, _∙_}
 use mathlib.Core.Logic.{_↔_, ⊎-elim, Iff·trans, Iff·and}
 use mathlib.Core.Bool.{Bool, true, not, _&&_, _||_, false≢true}
 use mathlib.Core.List.{List, [], _∷_, List·Memᴰ, List·Memᴰ·head, List·Memᴰ·tail, List·Memᴰ·cases-cons, List·Memᴰ·not-nil}
@@ -11,11 +11,14 @@ use Rattle.slices.specs.Order.{order, equal}
 use Rattle.slices.proofs.Cases.{split, both, and-left, and-right, either, or-left, or-right, or-iff}
 use Rattle.slices.proofs.OrderLaws.{equal-iff}
 use Rattle.columns.specs.Patterns.{codes, texts}
-use Rattle.columns.specs.Words.{OneOf}
+use Rattle.columns.specs.Words.{columns, OneOf}
 use Rattle.columns.specs.Terminators.{terminators}
 use Rattle.leg.specs.Terminator.{numberOf, nameOf, among, endsAtFix}
 use Rattle.leg.specs.declared.terminator.Terminator.{Terminator}
 use Rattle.leg.specs.declared.terminator.Terminator.the-variants.{Af, Ca, Cd, Cf, Ci, Cr, Df, Fa, Fc, Fd, Fm, Ha, Hf, Hm, If, Pi, Rf, Tf, Va, Vd, Vi, Vm, Vr}
+use Rattle.leg.specs.Legal.{LegalLeg}
+use Rattle.leg.proofs.Legality.{named-back}
+use Rattle.routes.specs.Legal.{Leg, Follows}
 use Rattle.routes.specs.Pairs.{onlyFirst, neverFirst, followsFix, terminatorIn, firstLeg, pair}
 
 -- the code's table
@@ -78,18 +81,24 @@ if-then {A} {B} a b p q = (
   λ f. split b (λ e. or-left a (not b) (p .1 (f (q .0 e)))) (λ e. or-right a (not b) (rw e)),
 )
 
--- a record may be the first leg of a route exactly when its terminator is neither TF nor RF
-pub first-leg-iff : (rec : List ℕ) → (firstLeg rec ≡ true) ↔ (OneOf ("TF" ∷ "RF" ∷ []) (nameOf (terminatorIn rec)) → ⊥)
-unfolding firstLeg neverFirst
-first-leg-iff rec = not-iff (neverFirst (terminatorIn rec)) (among-iff (nameOf (terminatorIn rec)) (texts ("TF" ∷ "RF" ∷ [])))
+-- a legal leg's letters are among some names exactly when its terminator's name is
+letters-iff : (rec : List ℕ) → LegalLeg rec → (ps : List (List ℕ)) → (among (nameOf (terminatorIn rec)) ps ≡ true) ↔ List·Memᴰ (columns 48 49 rec) ps
+letters-iff rec l ps =
+    subst (λ (f : List ℕ). (among (nameOf (terminatorIn rec)) ps ≡ true) ↔ List·Memᴰ f ps)
+    (sym (named-back (columns 48 49 rec) (l .content .leg .terminator))) (among-iff (nameOf (terminatorIn rec)) ps)
 
--- u may follow t exactly when u is not IF and, if it is one of those that follow a fix, t is one of those that end at one
-pub pair-iff : (t u : Terminator) → (pair t u ≡ true)
-    ↔ ((OneOf ("IF" ∷ []) (nameOf u) → ⊥)
-    × (OneOf ("TF" ∷ "RF" ∷ "HA" ∷ "HF" ∷ "HM" ∷ "PI" ∷ "FA" ∷ "FC" ∷ "FD" ∷ "FM" ∷ []) (nameOf u)
-    → OneOf ("IF" ∷ "TF" ∷ "CF" ∷ "DF" ∷ "AF" ∷ "RF" ∷ "HA" ∷ "HF" ∷ "HM" ∷ []) (nameOf t)))
+-- a legal leg may be the first of a route exactly when it is neither TF nor RF
+pub first-leg-iff : (rec : List ℕ) → LegalLeg rec → (firstLeg rec ≡ true) ↔ (OneOf ("TF" ∷ "RF" ∷ []) (columns 48 49 rec) → ⊥)
+unfolding firstLeg neverFirst
+first-leg-iff rec l = not-iff (neverFirst (terminatorIn rec)) (letters-iff rec l (texts ("TF" ∷ "RF" ∷ [])))
+
+-- a legal leg m may follow l exactly when it is not IF and, if it is one of those that follow a fix, l is one of those that end at one
+pub pair-iff : (l m : Leg) → LegalLeg (l .primary) → LegalLeg (m .primary)
+    → (pair (terminatorIn (l .primary)) (terminatorIn (m .primary)) ≡ true) ↔ Follows l m
 unfolding pair onlyFirst followsFix endsAtFix
-pair-iff t u =
+pair-iff l m p q =
+    let t : Terminator = terminatorIn (l .primary) in
+    let u : Terminator = terminatorIn (m .primary) in
     Iff·trans (and-iff (not (onlyFirst u)) (endsAtFix t || not (followsFix u)))
-    (Iff·and (not-iff (onlyFirst u) (among-iff (nameOf u) (texts ("IF" ∷ []))))
-    (if-then (endsAtFix t) (followsFix u) (among-iff (nameOf t) _) (among-iff (nameOf u) _)))
+    (Iff·and (not-iff (onlyFirst u) (letters-iff (m .primary) q (texts ("IF" ∷ []))))
+    (if-then (endsAtFix t) (followsFix u) (letters-iff (l .primary) p _) (letters-iff (m .primary) q _)))

@@ -3,16 +3,15 @@
 -- Assumes nothing.
 use Prim.Native.Nat.{ℕ, _≤_}
 use Prim.Native.Char.{code}
+use Prim.Native.String.{String}
 use mathlib.Core.Path.{_≡_}
-use mathlib.Core.Bool.{true}
 use mathlib.Core.Logic.{_↔_}
 use mathlib.Core.List.{List, [], _∷_, _++_, map}
 use lib.ListN.{length, take}
 use Rattle.columns.specs.Patterns.{codes}
 use Rattle.columns.specs.Rows.{byteIn}
-use Rattle.columns.specs.Words.{columns, ContinuationContent}
+use Rattle.columns.specs.Words.{columns, OneOf, ContinuationContent}
 use Rattle.leg.specs.Legal.{LegalLeg}
-use Rattle.routes.specs.Pairs.{terminatorIn, firstLeg, pair}
 use Rattle.routes.specs.Places.{keyOf, sequenceOf, Every, Rising}
 
 -- a leg is a primary record and its continuations; a route has one leg or more
@@ -50,16 +49,28 @@ Neighbours P [] = Unit {0}
 Neighbours P (x ∷ []) = Unit {0}
 Neighbours P (x ∷ y ∷ ys) = P x y × Neighbours P (y ∷ ys)
 
--- the second leg may follow the first
+-- the leg's terminator is one of these
+abbrev pub FlownAs : List String → Leg → Type 0
+FlownAs names l = OneOf names (columns 48 49 (l .primary))
+
+-- "TF and RF are never first."
+abbrev pub MayBegin : Leg → Type 0
+MayBegin l = FlownAs ("TF" ∷ "RF" ∷ []) l → ⊥
+
+-- "IF is only the first leg of a route." "TF, RF, HA, HF, HM, PI, FA, FC, FD and FM, when not first, follow one of IF, TF, CF, DF, AF, RF,
+-- HA, HF, HM. All other pairs stand."
 abbrev pub Follows : Leg → Leg → Type 0
-Follows l m = pair (terminatorIn (l .primary)) (terminatorIn (m .primary)) ≡ true
+Follows l m =
+    (FlownAs ("IF" ∷ []) m → ⊥)
+    × (FlownAs ("TF" ∷ "RF" ∷ "HA" ∷ "HF" ∷ "HM" ∷ "PI" ∷ "FA" ∷ "FC" ∷ "FD" ∷ "FM" ∷ []) m
+    → FlownAs ("IF" ∷ "TF" ∷ "CF" ∷ "DF" ∷ "AF" ∷ "RF" ∷ "HA" ∷ "HF" ∷ "HM" ∷ []) l)
 
 -- "A route is the records with equal columns 1-25. Within one, the primaries' sequence numbers rise."
 pub record RightRoute (r : Route) : Type 0 where
   pub legs : Every RightLeg (r .first ∷ r .others)
   pub together : Every (λ l. keyOf (r .first .primary) ≡ keyOf (l .primary)) (r .others)
   pub rising : Rising (map (λ l. sequenceOf (l .primary)) (r .first ∷ r .others))
-  pub begins : firstLeg (r .first .primary) ≡ true
+  pub begins : MayBegin (r .first)
   pub pairs : Neighbours Follows (r .first ∷ r .others)
 
 -- "Routes stand in rising byte order, and each once."

@@ -2,4 +2,5 @@
 pub mod Starred
 pub mod Printed
 pub mod Unique
+pub mod OrderLaws
 pub mod Demands

@@ -1,2 +1,3 @@
 -- What the theorems of this crate speak of.
+pub mod Order
 pub mod Starred

@@ -1,0 +1,114 @@
+-- In which order refusals come: for each thing that is judged its stages as a list, to be read beside paper 01's sentences. Each stage is a
+-- verdict of the whole input, and the answer is the first of them that refuses (`First`, in routes/specs/First). A stage that looks at many
+-- things, records, wanted numbers or corrections one after the other, is said below as a relation of its own.
+-- Assumes nothing.
+use Prim.Native.Nat.{ℕ, _+_, _≤_, _<_}
+use mathlib.Core.Path.{_≡_}
+use mathlib.Core.Bool.{cond}
+use mathlib.Core.Logic.{_⊎_}
+use mathlib.Core.List.{List, [], _∷_, _++_}
+use mathlib.Core.Option.{none, some}
+use lib.Dec.{ltb}
+use lib.ListN.{length}
+use Rattle.refusals.specs.Table.{cutShort, fieldContent, companionBlank, neededBlank, doesNotApply, routeRefused, notInLog, bufferTooShort}
+use Rattle.refusals.specs.declared.Refusal.{Refusal}
+use Rattle.refusals.specs.declared.Verdict.{Verdict}
+use Rattle.refusals.specs.declared.Verdict.the-variants.{Accepted, Refused}
+use Rattle.columns.specs.Kinds.{kindOf, firstBadField}
+use Rattle.leg.specs.Stages.{companionColumn, neededColumn}
+use Rattle.leg.specs.Judge.{stage, byKind}
+use Rattle.parts.specs.Record.{sizeColumn, columnsOf}
+use Rattle.routes.specs.Files.{sizeStage, tailStage}
+use Rattle.routes.specs.Sources.{records}
+use Rattle.routes.specs.Stages.{nothing}
+use Rattle.routes.specs.Walk.{walkFrom, finished}
+use Rattle.corrections.specs.Reading.{Entry, Reading, refused, said, readLog}
+use Rattle.applying.specs.Apply.{linesApplied, touchedJudged}
+use Rattle.selection.specs.Pick.{lengthStage, wantedStage, everything, outcomeVerdict, carried}
+
+-- ---- a record
+
+-- "3, 4, 5 .. in number order", "A continuation has no stage 4, 5, 7 or 8". Each gives a column, and none where it finds nothing.
+abbrev pub recordOrder : (place : ℕ) → List ℕ → List Verdict
+recordOrder place rec =
+    stage (firstBadField rec) (fieldContent place) Accepted ∷
+    byKind (kindOf rec) (stage (companionColumn rec) (companionBlank place) Accepted) ∷
+    byKind (kindOf rec) (stage (neededColumn rec) (neededBlank place) Accepted) ∷
+    []
+
+-- "One record read alone is 133 bytes, place 1; a longer one gives 1 at column 134, if byte 133 is a line feed; then 3, 4, 5."
+abbrev pub readOrder : List ℕ → List Verdict
+readOrder s = stage (sizeColumn s) (cutShort 1) Accepted ∷ recordOrder 1 (columnsOf s)
+
+-- 14: fewer bytes are lent than have to be
+unfoldable pub roomStage : (needed lent : ℕ) → Verdict
+roomStage needed lent = cond (ltb lent needed) (Refused bufferTooShort) Accepted
+
+-- "Writing parts: 14, then 3, 4, 5", of the record that the parts make; "When writing, the place is 0".
+abbrev pub writeOrder : (lent : ℕ) → List ℕ → List Verdict
+writeOrder lent rec = roomStage 133 lent ∷ recordOrder 0 rec
+
+-- ---- a file
+
+-- "A file: 2 first; then record by record", where the second stage has its own order (`FirstRecord`); a record that is cut short is behind
+-- all that are judged so; "past the last one as record count plus 1".
+abbrev pub fileOrder : List ℕ → List Verdict
+fileOrder f =
+    sizeStage f ∷
+    walkFrom nothing 1 (records f) ∷
+    tailStage (length f) (length (records f)) ∷
+    finished (records f) ∷
+    []
+
+-- ---- a log, a pick
+
+-- the log line by line
+abbrev pub linesStage : Reading → Verdict
+linesStage (refused r) = Refused r
+linesStage (said n es) = Accepted
+
+-- 12; it is not asked where the log could not be read
+abbrev pub numbersStage : (wanted : List ℕ) → Reading → Verdict
+numbersStage ws (refused r) = Accepted
+numbersStage ws (said n es) = wantedStage n 1 ws
+
+module _ (frozen log : List ℕ) where
+  -- "then correction by correction 10, 11", likewise
+  abbrev pub correctionsStage : Reading → Verdict
+  correctionsStage (refused r) = Accepted
+  correctionsStage (said n es) = outcomeVerdict (carried frozen log everything n es)
+
+  -- what a log says beside its frozen file
+  abbrev pub reading : Reading
+  reading = readLog log (length (records frozen))
+
+  -- "checking one keeps this order without 14 and 12": 13 for length, 2, the file, the log line by line, then correction by correction
+  abbrev pub checkOrder : List Verdict
+  checkOrder = lengthStage log ∷ (fileOrder frozen ++ (linesStage reading ∷ correctionsStage reading ∷ []))
+
+  -- "Picking: 14, 13 for length, 2, the file, the log line by line (on each, 9 before 13), 12, then correction by correction 10, 11."
+  abbrev pub pickOrder : (wanted : List ℕ) → List Verdict
+  pickOrder ws = lengthStage log ∷ (fileOrder frozen ++ (linesStage reading ∷ numbersStage ws reading ∷ correctionsStage reading ∷ []))
+
+  -- the same where a file's bytes are lent
+  abbrev pub newFileOrder : (lent : ℕ) (wanted : List ℕ) → List Verdict
+  newFileOrder lent ws = roomStage 63840 lent ∷ pickOrder ws
+
+-- "wanted number 0 or past the last correction": it is not one of n corrections
+abbrev pub NotInLog : (n wanted : ℕ) → Type 0
+NotInLog n w = (w ≡ 0) ⊎ (n < w)
+
+-- the refusal 12 is that of the first of some wanted numbers that is in no log of n corrections; the first number has an index
+pub data FirstWanted (n : ℕ) : (index : ℕ) → List ℕ → Refusal → Type 0 where
+  at : {i w : ℕ} {ws : List ℕ} → NotInLog n w → FirstWanted n i (w ∷ ws) (notInLog i)
+  behind : {i w : ℕ} {ws : List ℕ} {r : Refusal} → (NotInLog n w → ⊥) → FirstWanted n (i + 1) ws r → FirstWanted n i (w ∷ ws) r
+
+-- the refusal is that of the first of some corrections, the first of which has a number, that fails over the records as those before it left
+-- them: 10 where a line can't be applied; else 11, with the number of the first touched route's refusal
+pub data FirstCorrection (frozen log : List ℕ) : (number : ℕ) → List (List Entry) → List ℕ → Refusal → Type 0 where
+  unapplied : {n : ℕ} {es : List Entry} {ess : List (List Entry)} {xs : List ℕ} → linesApplied frozen log es xs ≡ none
+      → FirstCorrection frozen log n (es ∷ ess) xs (doesNotApply n)
+  route : {n : ℕ} {es : List Entry} {ess : List (List Entry)} {xs ys : List ℕ} {r : Refusal} → linesApplied frozen log es xs ≡ some ys
+      → touchedJudged frozen log es 0 ys ≡ Refused r → FirstCorrection frozen log n (es ∷ ess) xs (routeRefused n (r .number))
+  behind : {n : ℕ} {es : List Entry} {ess : List (List Entry)} {xs ys : List ℕ} {r : Refusal} → linesApplied frozen log es xs ≡ some ys
+      → touchedJudged frozen log es 0 ys ≡ Accepted → FirstCorrection frozen log (n + 1) ess ys r → FirstCorrection frozen log n (es ∷ ess) xs r
