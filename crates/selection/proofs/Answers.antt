@@ -4,7 +4,7 @@
 use mathlib.Core.Path.{_≡_, refl, sym, ap, subst, _∙_}
 use mathlib.Core.Bool.{Bool, true, false, cond}
 use mathlib.Core.List.{List, [], _∷_, _++_, map}
-use mathlib.Core.Logic.{_⊎_, inl, inr}
+use mathlib.Core.Logic.{inl, inr}
 use Prim.Native.Nat.{ℕ, zero, suc, _+_, _-_, _*_, _≤_, _<_}
 use native.Mathlib.Omega.{arith}
 use lib.Dec.{leb, ltb}
@@ -21,6 +21,7 @@ use Rattle.routes.specs.Places.{Every}
 use Rattle.routes.specs.Sources.{recordWithin, recordAt, sourcesFor}
 use Rattle.routes.proofs.Lines.{length-lines}
 use Rattle.selection.specs.Pick.{Pick, refusedBy, picked, pickOf, newRecords, newBytes, lineIn, filePick, pickedAs}
+use Rattle.selection.specs.Demand.{LiesAt}
 use Rattle.selection.proofs.Demand.{picked-demand}
 use Rattle.selection.proofs.StoredLaws.{in-use-all}
 
@@ -45,12 +46,6 @@ module _ (f l : List ℕ) where
   unfolding lineIn
   no-line-zero p = refl
 
-  -- A source's 132 bytes are a range of the frozen file or of the log.
-  pub record Range (source : ℕ) (rec : List ℕ) : Type 0 where
-    pub whose : (source < 1000000) ⊎ (1000000 ≤ source)
-    pub frozen : source < 1000000 → (source + 132 ≤ length f) × (rec ≡ take 132 (drop source f))
-    pub log : 1000000 ≤ source → (source - 1000000 + 132 ≤ length l) × (rec ≡ take 132 (drop (source - 1000000) l))
-
   -- 132 bytes that were found within a slice are that range of it
   within-range : (s : List ℕ) (at : ℕ) → length (recordWithin s at) ≡ 132 → (at + 132 ≤ length s) × (recordWithin s at ≡ take 132 (drop at s))
   unfolding recordWithin
@@ -61,18 +56,18 @@ module _ (f l : List ℕ) where
       by true e h = (leb-true (at + 132) (length s) e, refl)
       by false e h = absurd (omega arith)
 
-  source-range : (source : ℕ) → length (recordAt f l source) ≡ 132 → Range source (recordAt f l source)
+  source-range : (source : ℕ) → length (recordAt f l source) ≡ 132 → LiesAt f l source (recordAt f l source)
   unfolding recordAt
   source-range source w = by (ltb source 1000000) refl w
     where
       by : (b : Bool) → ltb source 1000000 ≡ b → length (cond b (recordWithin f source) (recordWithin l (source - 1000000))) ≡ 132
-          → Range source (cond b (recordWithin f source) (recordWithin l (source - 1000000)))
+          → LiesAt f l source (cond b (recordWithin f source) (recordWithin l (source - 1000000)))
       by true e h =
           let k = ltb-true source 1000000 e in
-          record { whose = inl k; frozen = λ _. within-range f source h; log = λ z. absurd (omega arith) }
+          record { whose = inl k; inFrozen = λ _. within-range f source h; inLog = λ z. absurd (omega arith) }
       by false e h =
           let k = ltb-false source 1000000 e in
-          record { whose = inr k; frozen = λ z. absurd (omega arith); log = λ _. within-range l (source - 1000000) h }
+          record { whose = inr k; inFrozen = λ z. absurd (omega arith); inLog = λ _. within-range l (source - 1000000) h }
 
   every-at : (rs : List (List ℕ)) → Every Wide rs → (n : ℕ) → n < length rs → length (getD rs n []) ≡ 132
   every-at [] e n h = absurd (omega arith)
@@ -81,14 +76,14 @@ module _ (f l : List ℕ) where
 
   -- Each line of a pick that stands is the stated range of the stated slice.
   pub line-is-range : (ws ns xs : List ℕ) → pickOf f l ws ≡ picked ns xs → (n : ℕ) → n < length xs
-      → Range (getD xs n 0) (lineIn f l (pickedAs (picked ns xs) .records) (suc n))
+      → LiesAt f l (getD xs n 0) (lineIn f l (pickedAs (picked ns xs) .records) (suc n))
   unfolding newRecords
   line-is-range ws ns xs e n h =
       let d = picked-demand f l ws ns xs e in
       let m : n < length (map (recordAt f l) xs) = omega (arith, length-map xs (recordAt f l)) in
       let q : getD (map (recordAt f l) xs) n [] ≡ recordAt f l (getD xs n 0) =
       getD-any (map (recordAt f l) xs) n [] (recordAt f l 0) m ∙ List·getD-map (recordAt f l) xs n 0 in
-      subst (Range (getD xs n 0)) (sym (line-is-record (picked ns xs) n ∙ q))
+      subst (LiesAt f l (getD xs n 0)) (sym (line-is-record (picked ns xs) n ∙ q))
       (source-range (getD xs n 0) (sym (ap length q) ∙ every-at (map (recordAt f l) xs) (d .wide) n m))
 
   -- ---- the bytes of the new file

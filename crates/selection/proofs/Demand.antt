@@ -1,6 +1,5 @@
--- What is promised of a pick, the third demand, of this product's own definitions: which logs are accepted, when there is a pick, which
--- corrections it takes, and what the new file is. The theory's words stand in history's specs (Format, Apply, Sets, Demand); in
--- specs/Procedures, `procedures` is this product's format and `logOf` says a legal log's corrections in the theory's words.
+-- The third demand, of this product's own definitions: which logs are accepted, when there is a pick, and that a pick is what is promised of it
+-- (`Demanded`, in specs/Demand).
 -- Assumes nothing.
 use mathlib.Core.Path.{_≡_, refl, sym, ap, subst, _∙_}
 use mathlib.Core.Logic.{_↔_}
@@ -18,10 +17,10 @@ use Rattle.routes.specs.Sources.{recordAt, records}
 use Rattle.routes.proofs.Lines.{file-iff}
 use Rattle.history.specs.Format as H
 use Rattle.history.specs.Apply.{run}
-use Rattle.history.specs.Sets.{Numbers, closure}
-use Rattle.history.specs.Demand.{Fewest, Carried}
+use Rattle.history.specs.Sets.{Numbers}
 use Rattle.history.proofs.Statements as history
 use Rattle.selection.specs.Pick.{wantedStage, wants, membersFrom, picked, logVerdict, pickOf}
+use Rattle.selection.specs.Demand.{withRelied, Demanded}
 use Rattle.applying.specs.Procedures.{procedures, logOf}
 use Rattle.applying.proofs.Procedures.{accepted-iff}
 use Rattle.selection.proofs.OpenedLaws.{legal-opened, carried-placed}
@@ -66,31 +65,11 @@ pick-iff frozen log ws = (
 
 -- ---- what a pick is
 
--- the wanted corrections of a legal log, and those that they rely on
-abbrev pub needed : {log : List ℕ} {frozen : ℕ} → LegalLog log frozen → (wanted : List ℕ) → Numbers
-needed l ws = closure procedures (logOf l) (wants ws)
-
--- What is promised of the numbers taken and of the sources of the new file's records. The log is legal. The numbers taken are, in their
--- order, those of the fewest corrections: the wanted ones, and with each the last earlier one on every route that it touches. Over the
--- frozen records these alone run without failing; every route stands in the new file as the log left it after the last correction taken
--- that touches it, or as it is in the frozen file. The new file's records are those that lie at the sources; written as lines, they are
--- an accepted file. Each is 132 bytes long; there are at most 480 of them, and at most 200 numbers.
-pub record Demanded (frozen log wanted taken sources : List ℕ) : Type 0 where
-  pub legal : LegalLog log (length (records frozen))
-  pub numbers : taken ≡ membersFrom (needed legal wanted) 1 (length (legal .corrections))
-  pub fewest : Fewest procedures (logOf legal) (wants wanted) (needed legal wanted)
-  pub carried : Carried procedures (records frozen) (logOf legal) (needed legal wanted)
-  pub new : carried .new ≡ map (recordAt frozen log) sources
-  pub accepted : fileVerdict (lines (map (recordAt frozen log) sources)) ≡ Accepted
-  pub wide : Every Wide (map (recordAt frozen log) sources)
-  pub atMost : length sources ≤ 480
-  pub takenAtMost : length taken ≤ 200
-
 pub picked-demand : (frozen log ws taken sources : List ℕ) → pickOf frozen log ws ≡ picked taken sources → Demanded frozen log ws taken sources
 picked-demand frozen log ws taken xs e =
     let (n, es, s) = steps frozen log ws taken xs e in
     let o = s .whole .opening in
-    let T = needed (o .legal) ws in
+    let T = withRelied (o .legal) ws in
     let rs = map (recordAt frozen log) xs in
     let c = theory frozen log ws (s .whole) in
     let new : c .new ≡ rs = some-same (sym (taken-runs frozen log ws (s .whole)) ∙ outcome-filed frozen log (s .alone)) in

@@ -1,3 +1,4 @@
--- What the contracts of this crate cite.
+-- What the contracts of this crate cite, and what its theorems say.
 pub mod Reliance
 pub mod Pick
+pub mod Demand

@@ -1,59 +1,102 @@
 -- The three demands, together, about the definitions that the contracts of the public functions cite. Each is proved in the crate that it
--- speaks of; here they stand side by side. That every function ends on every input, and leaves in every byte what its contract says, is
--- what the check of its contract means.
+-- speaks of, or in OrderLaws; here they stand side by side. That every function ends on every input, and leaves in every byte what its
+-- contract says, is what the check of its contract means.
 -- Assumes nothing.
 use mathlib.Core.Path.{_≡_}
-use mathlib.Core.List.{List, [], _∷_}
+use mathlib.Core.List.{List, [], _∷_, _++_}
 use mathlib.Core.Logic.{_↔_}
-use Prim.Native.Nat.{ℕ, _≤_, _<_}
+use mathlib.Core.Option.{some}
+use Prim.Native.Nat.{ℕ, _-_, _≤_}
 use lib.ListN.{length, replicate}
 use Rattle.slices.specs.Part.{padded}
-use Rattle.refusals.specs.Table.{bufferTooShort}
+use Rattle.refusals.specs.Table.{fieldContent}
 use Rattle.refusals.specs.declared.Refusal.{Refusal}
 use Rattle.refusals.specs.declared.Verdict.the-variants.{Accepted, Refused}
-use Rattle.columns.specs.Words.{ContinuationContent}
-use Rattle.leg.specs.Legal.{LegalLeg}
-use Rattle.fields.specs.Leg.{legOf, renderLeg}
-use Rattle.fields.specs.Continuation.{continuationOf, contentOf, renderContinuation}
+use Rattle.columns.specs.Rows.{Leftmost}
+use Rattle.columns.specs.Kinds.{kindOf, layoutOf, firstBadField}
+use Rattle.leg.specs.Judge.{stage}
+use Rattle.leg.specs.Legal.{Legal}
+use Rattle.fields.specs.Leg.{renderLeg}
+use Rattle.fields.specs.Continuation.{renderContinuation}
 use Rattle.fields.specs.declared.primary.Leg.{Leg}
 use Rattle.fields.specs.declared.continuation.Continuation.{Continuation}
-use Rattle.parts.specs.Record.{writing, written}
+use Rattle.parts.specs.Record.{readingOf, writing, written}
+use Rattle.parts.specs.declared.Parts.the-variants as read
 use Rattle.parts.proofs.Theorems as parts
-use Rattle.routes.specs.Files.{sizeStage, tailStage, fileVerdict}
-use Rattle.routes.specs.First.{First}
+use Rattle.routes.specs.Files.{fileVerdict}
+use Rattle.routes.specs.First.{First, FirstRecord}
 use Rattle.routes.specs.Legal.{LegalFile}
-use Rattle.routes.specs.Sources.{records}
+use Rattle.routes.specs.Sources.{records, inUse, sourcesOf}
 use Rattle.routes.specs.Stages.{nothing}
-use Rattle.routes.specs.Walk.{walkFrom, finished}
+use Rattle.routes.specs.Walk.{walkFrom}
 use Rattle.routes.proofs.Legality as routes
-use Rattle.routes.proofs.FirstLaws.{file-refuses}
-use Rattle.corrections.specs.Reading.{refused, readLog, indexOf}
+use Rattle.routes.proofs.FirstLaws.{walk-refuses}
+use Rattle.corrections.specs.Reading.{Entry, refused, readLog, indexOf}
 use Rattle.corrections.specs.Text.{LegalLog, GoesWrong}
 use Rattle.corrections.proofs.Legality as corrections
 use Rattle.corrections.proofs.Wrong.{goes-wrong}
-use Rattle.selection.specs.Pick.{wantedStage, refusedBy, picked, logVerdict, pickOf, newBytes, filePick}
-use Rattle.selection.proofs.Demand.{Demanded, picked-demand, pick-iff}
+use Rattle.history.specs.Apply.{run}
+use Rattle.applying.specs.Run.{byCorrection}
+use Rattle.applying.specs.Procedures.{procedures, logOf}
+use Rattle.selection.specs.Pick.{wantedStage, everything, refusedBy, picked, outcomeVerdict, carried, logVerdict, pickOf, newBytes, filePick}
+use Rattle.selection.specs.Demand.{Demanded}
+use Rattle.selection.proofs.Demand.{picked-demand, pick-iff, log-runs}
 use Rattle.selection.proofs.Answers as answers
+use Rattle.statements.specs.Order.{readOrder, writeOrder, fileOrder, checkOrder, pickOrder, newFileOrder, FirstWanted, FirstCorrection}
+use Rattle.statements.proofs.OrderLaws as order
 
 -- ---- 1: "Every refusal has a number, a place and a column, the first in a stated order, and a lent output buffer then holds only zero bytes."
 
--- A file is refused by its size, by the first record that fails, by what stands behind its records, or by the continuation that is missing
--- past the last of them, whichever comes first.
-pub first-of-a-file : (r : Refusal) (f : List ℕ) → (fileVerdict f ≡ Refused r)
-    ↔ First r (sizeStage f ∷ walkFrom nothing 1 (records f) ∷ tailStage (length f) (length (records f)) ∷ finished (records f) ∷ [])
-first-of-a-file = file-refuses
+-- Each answer is refused by r exactly when r is the first failure in its order; the orders stand in specs/Order, beside the paper's sentences.
 
--- A log that is refused by 9 goes wrong first at that line, and at that column of it.
+pub file-refused : (f : List ℕ) (r : Refusal) → (fileVerdict f ≡ Refused r) ↔ First r (fileOrder f)
+file-refused = order.file-first
+
+pub record-refused : (s : List ℕ) (r : Refusal) → (readingOf s .verdict ≡ Refused r) ↔ First r (readOrder s)
+record-refused = order.read-first
+
+pub parts-refused : (lent : ℕ) (rec : List ℕ) (r : Refusal) → (writing lent rec ≡ Refused r) ↔ First r (writeOrder lent rec)
+parts-refused = order.write-first
+
+pub log-refused : (frozen log : List ℕ) (r : Refusal) → (logVerdict frozen log ≡ Refused r) ↔ First r (checkOrder frozen log)
+log-refused = order.check-first
+
+pub pick-refused : (frozen log wanted : List ℕ) (r : Refusal) → (pickOf frozen log wanted ≡ refusedBy r) ↔ First r (pickOrder frozen log wanted)
+pick-refused = order.pick-first
+
+pub new-file-refused : (frozen log wanted : List ℕ) (lent : ℕ) (r : Refusal)
+    → (filePick frozen log lent wanted ≡ refusedBy r) ↔ First r (newFileOrder frozen log lent wanted)
+new-file-refused = order.new-file-first
+
+-- And the stages that look at many things one after the other: the records of a file or of a route, by the first record and there the first
+-- stage; the fields of a record from left to right; the wanted numbers; the corrections.
+
+pub first-record : (recs : List (List ℕ)) (r : Refusal) → (walkFrom nothing 1 recs ≡ Refused r) ↔ FirstRecord r nothing 1 recs
+first-record recs r = walk-refuses r nothing 1 recs
+
+pub leftmost-field : (place : ℕ) (rec : List ℕ) (r : Refusal) → (stage (firstBadField rec) (fieldContent place) Accepted ≡ Refused r)
+    ↔ ((c : ℕ) × (1 ≤ c) × (r ≡ fieldContent place c) × Leftmost rec c (layoutOf (kindOf rec)))
+leftmost-field = order.content-iff
+
 pub first-of-a-log : (log : List ℕ) (frozen : ℕ) (r : Refusal) → readLog log frozen ≡ refused r → r .number ≡ 9 → GoesWrong 0 1 log r
 first-of-a-log = goes-wrong
 
--- On every refusal the buffer that was lent for the new file is nothing but zeros; and so is one that is too short for a record.
-pub nothing-but-zeros : (frozen log : List ℕ) (lent : ℕ) (wanted : List ℕ) (r : Refusal) → filePick frozen log lent wanted ≡ refusedBy r
-    → padded lent (newBytes frozen log (filePick frozen log lent wanted)) ≡ replicate lent 0
-nothing-but-zeros = answers.file-refused
+pub first-wanted : (corrections : ℕ) (wanted : List ℕ) (r : Refusal) → (wantedStage corrections 1 wanted ≡ Refused r) ↔ FirstWanted corrections 1 wanted r
+first-wanted n = order.wanted-iff n 1
 
-pub no-room : (n : ℕ) (rec : List ℕ) → n < 133 → (writing n rec ≡ Refused bufferTooShort) × (written n rec ≡ replicate n 0)
-no-room = parts.no-room
+pub first-correction : (frozen log : List ℕ) (corrections : ℕ) (lines : List Entry) (r : Refusal)
+    → (outcomeVerdict (carried frozen log everything corrections lines) ≡ Refused r)
+    ↔ FirstCorrection frozen log 1 (byCorrection 1 corrections lines) (inUse (sourcesOf frozen)) r
+first-correction = order.corrections-iff
+
+-- On every refusal, 14 and 3, 4, 5 of writing among them, the buffer that was lent is nothing but zeros.
+
+pub record-zeros : (lent : ℕ) (rec : List ℕ) (r : Refusal) → writing lent rec ≡ Refused r → written lent rec ≡ replicate lent 0
+record-zeros = parts.nothing-written
+
+pub file-zeros : (frozen log : List ℕ) (lent : ℕ) (wanted : List ℕ) (r : Refusal) → filePick frozen log lent wanted ≡ refusedBy r
+    → padded lent (newBytes frozen log (filePick frozen log lent wanted)) ≡ replicate lent 0
+file-zeros = answers.file-refused
 
 -- ---- 2: "Accepted exactly when legal."
 
@@ -61,23 +104,39 @@ no-room = parts.no-room
 pub file-accepted : (f : List ℕ) → (fileVerdict f ≡ Accepted) ↔ LegalFile f
 file-accepted = routes.accepted-iff
 
--- A log, beside so many frozen records, is accepted exactly when it is the text that paper 01 describes.
-pub log-accepted : (log : List ℕ) (frozen : ℕ) → (indexOf (readLog log frozen) .verdict ≡ Accepted) ↔ LegalLog log frozen
-log-accepted = corrections.accepted-iff
+-- One record read alone is accepted exactly when it is a legal record of 132 columns and its line feed.
+pub record-accepted : (s : List ℕ) → (readingOf s .verdict ≡ Accepted) ↔ ((rec : List ℕ) × parts.Alone rec s × Legal rec)
+record-accepted = parts.reading-iff
 
--- An accepted record read into parts and written again is the same 132 columns.
-pub leg-the-same : (rec : List ℕ) → length rec ≡ 132 → LegalLeg rec → renderLeg (legOf rec) ≡ rec
-leg-the-same = parts.leg-same
+-- A log's text, beside so many frozen records, is accepted exactly when it is what paper 01 describes.
+pub text-accepted : (log : List ℕ) (frozen : ℕ) → (indexOf (readLog log frozen) .verdict ≡ Accepted) ↔ LegalLog log frozen
+text-accepted = corrections.accepted-iff
 
-pub continuation-the-same : (rec : List ℕ) → length rec ≡ 132 → ContinuationContent rec → renderContinuation (continuationOf rec) (contentOf rec) ≡ rec
-continuation-the-same = parts.continuation-same
+-- "A log is only accepted with its frozen file": where that is accepted, the text is legal beside it, and its corrections run over its records.
+pub log-accepted : (frozen log : List ℕ) → (logVerdict frozen log ≡ Accepted)
+    ↔ ((fileVerdict frozen ≡ Accepted)
+    × (l : LegalLog log (length (records frozen)))
+    × (last : List (List ℕ))
+    × (run procedures (records frozen) (logOf l) ≡ some last))
+log-accepted = log-runs
+
+-- An accepted record read into parts and written again is the same bytes, with zeros past them.
+pub leg-the-same : (s : List ℕ) (g : Leg) (content : List ℕ) (lent : ℕ)
+    → readingOf s ≡ record { verdict = Accepted; parts = read.Leg g; content = content } → 133 ≤ lent
+    → (writing lent (renderLeg g) ≡ Accepted) × (written lent (renderLeg g) ≡ s ++ replicate (lent - 133) 0)
+leg-the-same = parts.leg-read-written
+
+pub continuation-the-same : (s : List ℕ) (c : Continuation) (content : List ℕ) (lent : ℕ)
+    → readingOf s ≡ record { verdict = Accepted; parts = read.Continuation c; content = content } → 133 ≤ lent
+    → (writing lent (renderContinuation c content) ≡ Accepted) × (written lent (renderContinuation c content) ≡ s ++ replicate (lent - 133) 0)
+continuation-the-same = parts.continuation-read-written
 
 -- Parts are written exactly when some legal record gives them.
-pub leg-written : (g : Leg) (n : ℕ) → 133 ≤ n → (writing n (renderLeg g) ≡ Accepted) ↔ ((rec : List ℕ) × parts.LegGiven g rec)
+pub leg-written : (g : Leg) (lent : ℕ) → 133 ≤ lent → (writing lent (renderLeg g) ≡ Accepted) ↔ ((rec : List ℕ) × parts.LegGiven g rec)
 leg-written = parts.leg-written
 
-pub continuation-written : (c : Continuation) (content : List ℕ) (n : ℕ) → length content ≡ 83 → 133 ≤ n
-    → (writing n (renderContinuation c content) ≡ Accepted) ↔ ((rec : List ℕ) × parts.ContinuationGiven c content rec)
+pub continuation-written : (c : Continuation) (content : List ℕ) (lent : ℕ) → length content ≡ 83 → 133 ≤ lent
+    → (writing lent (renderContinuation c content) ≡ Accepted) ↔ ((rec : List ℕ) × parts.ContinuationGiven c content rec)
 continuation-written = parts.continuation-written
 
 -- ---- 3: "The right corrections, and nothing else."

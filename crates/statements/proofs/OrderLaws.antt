@@ -24,7 +24,8 @@ use Rattle.columns.specs.declared.Kind.the-variants as kind
 use Rattle.columns.proofs.RowLaws.{leftmost-iff}
 use Rattle.leg.specs.Stages.{companionColumn, neededColumn}
 use Rattle.leg.specs.Judge.{stage, judgedLeg, byKind, judged}
-use Rattle.parts.specs.Record.{alone, readingBy, readingByKind, nothing, legReading, continuationReading, readingOf, writing, sizeColumn, columnsOf}
+use Rattle.parts.specs.Record.{alone, readingOf, writing, sizeColumn, columnsOf}
+use Rattle.parts.proofs.Theorems.{reading-verdict}
 use Rattle.routes.specs.InTurn.{inTurn}
 use Rattle.routes.specs.First.{First}
 use Rattle.routes.specs.Files.{fileVerdict}
@@ -70,18 +71,6 @@ not-picked : {r : Refusal} {taken sources : List ℕ} → refusedBy r ≡ picked
 not-picked e = let z : _≡_ {A = ℕ} 0 1 = cc in omega arith
 
 -- ---- a record
-
-reading-verdict : (s : List ℕ) → readingOf s .verdict ≡ alone s
-unfolding readingOf legReading continuationReading nothing
-reading-verdict s = by (alone s)
-  where
-    kinds : (k : Kind) (rec : List ℕ) → readingByKind k rec .verdict ≡ Accepted
-    kinds kind.Primary rec = refl
-    kinds kind.Continuation rec = refl
-
-    by : (v : Verdict) → readingBy v (columnsOf s) .verdict ≡ v
-    by Accepted = kinds (kindOf (columnsOf s)) (columnsOf s)
-    by (Refused r) = refl
 
 judged-order : (place : ℕ) (rec : List ℕ) → judged place rec ≡ inTurn (recordOrder place rec)
 unfolding judged judgedLeg inTurn
