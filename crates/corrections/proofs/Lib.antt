@@ -7,9 +7,11 @@ pub mod FormLaws
 pub mod StopLaws
 pub mod FrontLaws
 pub mod Spelling
-pub mod Wrong
 pub mod TextLaws
 pub mod Legality
 pub mod ReadBack
 pub mod Within
+mod LegalLines
+mod Refusing
+pub mod Wrong
 mod Vectors

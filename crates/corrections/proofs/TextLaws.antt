@@ -50,10 +50,16 @@ read-line : (most line begun room at : ℕ) (bs : List ℕ) (l : Line) → (leng
 unfolding read
 read-line most line begun room at bs l n e v = rw (ne-eqb (length bs) 0 n, e, v)
 
+-- the line that a change is read as
+unfoldable pub lineFor : Change → Line
+lineFor (takeOut r) = TakenOut
+lineFor (putIn r) = PutIn
+
+-- a legal line is found, whatever stands behind it
 module _ (begun : ℕ) (rest : List ℕ) where
-  line-heading : lineOf begun (headingText (begun + 1) ++ rest) ≡ Heading
+  pub heading-found : lineOf begun (headingText (begun + 1) ++ rest) ≡ Heading
   unfolding lineOf
-  line-heading = rw (fits-whole (heading (begun + 1)) (headingText (begun + 1)) rest (fits-heading (begun + 1)))
+  heading-found = rw (fits-whole (heading (begun + 1)) (headingText (begun + 1)) rest (fits-heading (begun + 1)))
 
   not-heading : (x : Change) → whole (heading (begun + 1)) (changeText x ++ rest) ≡ false
   unfolding whole reach heading
@@ -64,18 +70,14 @@ module _ (begun : ℕ) (rest : List ℕ) where
   unfolding whole reach change
   not-taken r = refl
 
-  lineFor : Change → Line
-  lineFor (takeOut r) = TakenOut
-  lineFor (putIn r) = PutIn
-
-  line-change : (begun ≡ 0 → ⊥) → (x : Change) → Sound x → lineOf begun (changeText x ++ rest) ≡ lineFor x
+  pub change-found : (begun ≡ 0 → ⊥) → (x : Change) → Sound x → lineOf begun (changeText x ++ rest) ≡ lineFor x
   unfolding lineOf lineFor
-  line-change b (takeOut r) s =
+  change-found b (takeOut r) s =
       rw (not-heading (takeOut r), ne-eqb begun 0 b, fits-whole (change 68) (changeText (takeOut r)) rest (fits-change (takeOut r) s))
-  line-change b (putIn r) s =
+  change-found b (putIn r) s =
       rw (not-heading (putIn r), ne-eqb begun 0 b, not-taken r, fits-whole (change 65) (changeText (putIn r)) rest (fits-change (putIn r) s))
 
-with-none : (rest : Reading) → withEntries [] rest ≡ rest
+pub with-none : (rest : Reading) → withEntries [] rest ≡ rest
 with-none (refused r) = refl
 with-none (said n es) = refl
 
@@ -87,16 +89,16 @@ pub change-length : (x : Change) → Sound x → length (changeText x) ≡ 135
 change-length x s = fits-length (change (letterOf x)) (changeText x) (fits-change x s) ∙ change-width (letterOf x)
 
 -- one change is read
-change-read : (most line begun room at : ℕ) (x : Change) (rest : List ℕ) → Sound x → (begun ≡ 0 → ⊥) → isPut x ≤ room
+pub change-read : (most line begun room at : ℕ) (x : Change) (rest : List ℕ) → Sound x → (begun ≡ 0 → ⊥) → isPut x ≤ room
     → read (suc most) line begun room at (changeText x ++ rest)
     ≡ withEntries (entry (letterOf x) (at + 2) begun ∷ []) (read most (line + 1) begun (room - isPut x) (at + 135) rest)
 unfolding lineFor
 change-read most line begun room at (takeOut r) rest s b h =
     let z : room - 0 ≡ room = omega arith in
-    read-line most line begun room at (changeText (takeOut r) ++ rest) TakenOut (λ q. absurd (omega arith)) (line-change begun rest b (takeOut r) s) refl
+    read-line most line begun room at (changeText (takeOut r) ++ rest) TakenOut (λ q. absurd (omega arith)) (change-found begun rest b (takeOut r) s) refl
     ∙ rw (drop-at (changeText (takeOut r)) rest 135 (change-length (takeOut r) s), z)
 change-read most line begun room at (putIn r) rest s b h =
-    read-line most line begun room at (changeText (putIn r) ++ rest) PutIn (λ q. absurd (omega arith)) (line-change begun rest b (putIn r) s)
+    read-line most line begun room at (changeText (putIn r) ++ rest) PutIn (λ q. absurd (omega arith)) (change-found begun rest b (putIn r) s)
     (rw (ne-eqb room 0 (λ (q : room ≡ 0). omega arith)))
     ∙ rw (drop-at (changeText (putIn r)) rest 135 (change-length (putIn r) s))
 
@@ -125,10 +127,10 @@ changes-read (x ∷ xs) rest most line begun room at s b h =
     ∙ rw (l, r, a))
 
 -- the heading of a correction is read
-heading-read : (most line begun room at : ℕ) (rest : List ℕ) → begun < 200
+pub heading-read : (most line begun room at : ℕ) (rest : List ℕ) → begun < 200
     → read (suc most) line begun room at (headingText (begun + 1) ++ rest) ≡ read most (line + 1) (begun + 1) room (at + length (heading (begun + 1))) rest
 heading-read most line begun room at rest h =
-    read-line most line begun room at (headingText (begun + 1) ++ rest) Heading (λ q. absurd (omega arith)) (line-heading begun rest) (rw (lt-ltb begun 200 h))
+    read-line most line begun room at (headingText (begun + 1) ++ rest) Heading (λ q. absurd (omega arith)) (heading-found begun rest) (rw (lt-ltb begun 200 h))
     ∙ with-none (read most (line + 1) (begun + 1) room (at + length (heading (begun + 1))) (drop (length (heading (begun + 1))) (headingText (begun + 1) ++ rest)))
     ∙ ap (read most (line + 1) (begun + 1) room (at + length (heading (begun + 1))))
     (drop-at (headingText (begun + 1)) rest (length (heading (begun + 1))) (fits-length (heading (begun + 1)) (headingText (begun + 1)) (fits-heading (begun + 1))))

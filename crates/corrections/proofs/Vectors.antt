@@ -1,18 +1,22 @@
 -- Worked vectors, by evaluation: logs beside some frozen records, and what reading them gives: the number, the place and the column of the
 -- refusal, 0, 0 and 0 where they are accepted, then the corrections and the D and A lines.
 -- Assumes nothing.
-use mathlib.Core.Path.{_≡_, refl}
+use mathlib.Core.Path.{_≡_, refl, sym, subst}
+use mathlib.Core.Logic.{_↔_, ⊎-elim}
 use mathlib.Core.Bool.{Bool, true, _&&_}
 use mathlib.Core.List.{List, [], _∷_, _++_}
 use Prim.Native.Nat.{ℕ, zero, suc, _+_}
+use native.Mathlib.Omega.{arith}
 use lib.Dec.{eqb}
 use lib.ListN.{replicate}
-use Rattle.refusals.specs.Table.{refusal, stated}
+use Rattle.refusals.specs.Table.{refusal, stated, logLine, noRoom}
 use Rattle.refusals.specs.declared.Refusal.{Refusal}
 use Rattle.digits.specs.Decimal.{decimal, digitsBy}
 use Rattle.corrections.specs.declared.Index.{Index}
 use Rattle.corrections.specs.Lines.{heading, change, forms, reach, whole, longest, lineOf}
 use Rattle.corrections.specs.Reading.{read, readLog, indexOf}
+use Rattle.corrections.specs.Text.{GoesWrong, GoesPast}
+use Rattle.corrections.proofs.Wrong.{nine-iff, thirteen-iff, one-place, one-past, said-never-wrong}
 
 record Vector : Type 0 where
   log : List ℕ
@@ -133,3 +137,30 @@ lies = refl
 belongs : indexOf (readLog (first (C (50 ∷ []) then line 68 132 65 then line 65 132 66 then end)) 0) .correction ≡ 2 ∷ 2 ∷ replicate 442 0
 unfolding digitsBy decimal heading change forms reach whole longest lineOf read readLog indexOf C line _then_ end first
 belongs = refl
+
+-- where logs go wrong: the empty one and an accepted one nowhere; one with a byte behind its line at that byte, and nowhere else
+empty-right : (r : Refusal) → GoesWrong 0 1 end r → ⊥
+unfolding digitsBy decimal heading change forms reach whole longest lineOf read readLog end
+empty-right = said-never-wrong end 0 (omega arith) refl
+
+first-right : (r : Refusal) → GoesWrong 0 1 (first end) r → ⊥
+unfolding digitsBy decimal heading change forms reach whole longest lineOf read readLog C _then_ end first
+first-right = said-never-wrong (first end) 0 (omega arith) refl
+
+byte-behind : (r : Refusal) → GoesWrong 0 1 (first (88 ∷ [])) r ↔ (r ≡ logLine 2 1)
+unfolding digitsBy decimal heading change forms reach whole longest lineOf read readLog C _then_ end first
+byte-behind r = ((λ g. one-place (first (88 ∷ [])) r (logLine 2 1) g there), (λ e. subst (GoesWrong 0 1 (first (88 ∷ []))) (sym e) there))
+  where
+    there : GoesWrong 0 1 (first (88 ∷ [])) (logLine 2 1)
+    there = nine-iff (first (88 ∷ [])) 0 2 1 .0 refl .1
+
+-- where one goes past a limit: at an A line that has no room, and nowhere else
+put-behind : (r : Refusal) → GoesPast 0 0 1 (first (line 65 132 65 then end)) r ↔ (r ≡ noRoom 2)
+unfolding digitsBy decimal heading change forms reach whole longest lineOf read readLog C line _then_ end first
+put-behind r = (
+  (λ p. one-past (first (line 65 132 65 then end)) 0 r (noRoom 2) p there),
+  (λ e. subst (GoesPast 0 0 1 (first (line 65 132 65 then end))) (sym e) there),
+)
+  where
+    there : GoesPast 0 0 1 (first (line 65 132 65 then end)) (noRoom 2)
+    there = ⊎-elim (λ w. absurd (omega (arith, w .0))) (λ w. w .1) (thirteen-iff (first (line 65 132 65 then end)) 480 (noRoom 2) .0 (refl, refl))

@@ -1,12 +1,12 @@
 -- What a log is, in paper 01's words, as texts that are written and not as bytes that are judged.
 -- Assumes nothing.
-use Prim.Native.Nat.{ℕ, zero, suc, _+_, _-_, _≤_}
+use Prim.Native.Nat.{ℕ, zero, suc, _+_, _-_, _≤_, _<_}
 use mathlib.Core.Path.{_≡_}
 use mathlib.Core.Bool.{cond}
 use mathlib.Core.List.{List, [], _∷_, _++_, map}
 use lib.Dec.{eqb}
 use lib.ListN.{length, take, drop}
-use Rattle.refusals.specs.Table.{logLine}
+use Rattle.refusals.specs.Table.{logLine, logTooLong, tooManyCorrections, noRoom}
 use Rattle.refusals.specs.declared.Refusal.{Refusal}
 use Rattle.digits.specs.Decimal.{decimal}
 use Rattle.corrections.specs.Reading.{Entry, Reading, refused, said}
@@ -90,18 +90,58 @@ pub record LegalLog (log : List ℕ) (frozen : ℕ) : Type 0 where
 
 -- ---- a line that can't be completed
 
--- some bytes begin a line that is legal there
+-- some bytes are a line that is legal there, its line feed among them
+abbrev pub Complete : ℕ → List ℕ → Type 0
+Complete begun xs = (after : ℕ) × LegalLine begun xs after
+
+-- some bytes begin one
 abbrev pub Begins : ℕ → List ℕ → Type 0
 Begins begun xs = (ys : List ℕ) × (after : ℕ) × LegalLine begun (xs ++ ys) after
 
--- The log goes wrong at a line: the lines before it are legal, the bytes before the column begin a legal line there, and with the
--- column's byte they do not, or the log has no such byte.
+-- Refusal 9: what is left of a log, where so many corrections have begun, goes wrong at a line, counted on from a number. The lines
+-- before it are complete and legal. The bytes of the line before the column begin a legal line and are not yet one; with the column's
+-- byte they begin none, or the log ends in the line and has no such byte.
 pub data GoesWrong : (begun line : ℕ) → List ℕ → Refusal → Type 0 where
-  here : {begun line : ℕ} {bs : List ℕ} (n : ℕ) → n ≤ length bs → Begins begun (take n bs)
-      → (n + 1 ≤ length bs → Begins begun (take (n + 1) bs) → ⊥)
-      → GoesWrong begun line bs (logLine line (n + 1))
+  here : {begun line : ℕ} {bs : List ℕ} (n : ℕ) → n < length bs → Begins begun (take n bs) → (Complete begun (take n bs) → ⊥)
+      → (Begins begun (take (n + 1) bs) → ⊥) → GoesWrong begun line bs (logLine line (n + 1))
+  ends : {begun line : ℕ} {bs : List ℕ} → 1 ≤ length bs → Begins begun bs → (Complete begun bs → ⊥)
+      → GoesWrong begun line bs (logLine line (length bs + 1))
   later : {begun line after : ℕ} {l bs : List ℕ} {r : Refusal} → LegalLine begun l after → GoesWrong after (line + 1) bs r
       → GoesWrong begun line (l ++ bs) r
+
+-- ---- a line that is one too many
+
+-- how many A lines a legal line is: one or none
+abbrev pub putsOf : {begun : ℕ} {l : List ℕ} {after : ℕ} → LegalLine begun l after → ℕ
+putsOf begins = 0
+putsOf (changes b x s) = isPut x
+
+-- where so many A lines have room, a legal line is one too many: the heading of correction 201, or an A line that has no room
+abbrev pub OneTooMany : {begun : ℕ} {l : List ℕ} {after : ℕ} → (room : ℕ) → LegalLine begun l after → Type 0
+OneTooMany {begun} room begins = begun ≡ 200
+OneTooMany room (changes b x s) = room < isPut x
+
+-- what refuses such a line
+abbrev pub tooMany : {begun : ℕ} {l : List ℕ} {after : ℕ} → (line : ℕ) → LegalLine begun l after → Refusal
+tooMany line begins = tooManyCorrections line
+tooMany line (changes b x s) = noRoom line
+
+-- Refusal 13: the log goes past a limit at a line. The lines before it are complete and legal and none of them is one too many; the line
+-- is complete and legal, and it is.
+pub data GoesPast : (begun room line : ℕ) → List ℕ → Refusal → Type 0 where
+  front : {begun room line after : ℕ} {l : List ℕ} (bs : List ℕ) (k : LegalLine begun l after) → OneTooMany room k
+      → GoesPast begun room line (l ++ bs) (tooMany line k)
+  behind : {begun room line after : ℕ} {l bs : List ℕ} {r : Refusal} (k : LegalLine begun l after) → (OneTooMany room k → ⊥)
+      → GoesPast after (room - putsOf k) (line + 1) bs r → GoesPast begun room line (l ++ bs) r
+
+-- ---- a log that is refused
+
+-- "13 for length, .. the log line by line (on each, 9 before 13)": a 9 stands where no line before it is one too many.
+pub data RefusedLog (log : List ℕ) (frozen : ℕ) : Refusal → Type 0 where
+  tooLong : 60000 < length log → RefusedLog log frozen logTooLong
+  past : {r : Refusal} → length log ≤ 60000 → GoesPast 0 (480 - frozen) 1 log r → RefusedLog log frozen r
+  wrong : {r : Refusal} → length log ≤ 60000 → GoesWrong 0 1 log r → ((s : Refusal) → GoesPast 0 (480 - frozen) 1 log s → ⊥)
+      → RefusedLog log frozen r
 
 -- ---- the corrections that a reading tells of
 

@@ -32,9 +32,9 @@ use Rattle.routes.specs.Walk.{walkFrom}
 use Rattle.routes.proofs.Legality as routes
 use Rattle.routes.proofs.FirstLaws.{walk-refuses}
 use Rattle.corrections.specs.Reading.{Entry, refused, readLog, indexOf}
-use Rattle.corrections.specs.Text.{LegalLog, GoesWrong}
+use Rattle.corrections.specs.Text.{LegalLog, GoesWrong, RefusedLog}
 use Rattle.corrections.proofs.Legality as corrections
-use Rattle.corrections.proofs.Wrong.{goes-wrong}
+use Rattle.corrections.proofs.Wrong.{refused-iff, one-place}
 use Rattle.history.specs.Apply.{run}
 use Rattle.applying.specs.Run.{byCorrection}
 use Rattle.applying.specs.Procedures.{procedures, logOf}
@@ -69,7 +69,7 @@ pub new-file-refused : (frozen log wanted : List ℕ) (lent : ℕ) (r : Refusal)
 new-file-refused = order.new-file-first
 
 -- And the stages that look at many things one after the other: the records of a file or of a route, by the first record and there the first
--- stage; the fields of a record from left to right; the wanted numbers; the corrections.
+-- stage; the fields of a record from left to right; the lines of a log, which goes wrong at one place at most; the wanted numbers; the corrections.
 
 pub first-record : (recs : List (List ℕ)) (r : Refusal) → (walkFrom nothing 1 recs ≡ Refused r) ↔ FirstRecord r nothing 1 recs
 first-record recs r = walk-refuses r nothing 1 recs
@@ -78,8 +78,11 @@ pub leftmost-field : (place : ℕ) (rec : List ℕ) (r : Refusal) → (stage (fi
     ↔ ((c : ℕ) × (1 ≤ c) × (r ≡ fieldContent place c) × Leftmost rec c (layoutOf (kindOf rec)))
 leftmost-field = order.content-iff
 
-pub first-of-a-log : (log : List ℕ) (frozen : ℕ) (r : Refusal) → readLog log frozen ≡ refused r → r .number ≡ 9 → GoesWrong 0 1 log r
-first-of-a-log = goes-wrong
+pub first-line : (log : List ℕ) (frozen : ℕ) (r : Refusal) → (readLog log frozen ≡ refused r) ↔ RefusedLog log frozen r
+first-line = refused-iff
+
+pub one-column : (log : List ℕ) (r s : Refusal) → GoesWrong 0 1 log r → GoesWrong 0 1 log s → r ≡ s
+one-column = one-place
 
 pub first-wanted : (corrections : ℕ) (wanted : List ℕ) (r : Refusal) → (wantedStage corrections 1 wanted ≡ Refused r) ↔ FirstWanted corrections 1 wanted r
 first-wanted n = order.wanted-iff n 1
