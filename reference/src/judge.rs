@@ -2,21 +2,16 @@
 //! a primary the companions (4) and the needed fields (5).
 
 use crate::layout::{
-    blank, columns, continues, needed_columns, needs, CENTRE, CONTINUATION, FIX, HEAD, NAVAID, PRIMARY, TAIL,
+    blank, columns, continues, needed_columns, needs, Field, CENTRE, CONTINUATION, FIX, HEAD, NAVAID,
+    PRIMARY, TAIL,
 };
 
-/// Accepts the columns, or gives the refusal number and the column. A byte
-/// that is missing is legal in no field.
+/// Accepts the columns, or gives the refusal number and the column.
 pub fn judge(rec: &[u8]) -> Result<(), (u8, usize)> {
-    let continuation = rec.get(38).is_some_and(|number| continues(*number));
-    let middle = if continuation { CONTINUATION } else { PRIMARY };
-    for field in HEAD.iter().chain(middle).chain(TAIL) {
-        let content = rec.get(field.0 - 1..field.1);
-        if !content.is_some_and(|content| (field.2)(content, rec)) {
-            return Err((3, field.0));
-        }
+    if let Some(column) = first_bad(rec) {
+        return Err((3, column));
     }
-    if continuation {
+    if is_continuation(rec) {
         return Ok(());
     }
     if let Some(column) = blank_companion(rec) {
@@ -26,6 +21,20 @@ pub fn judge(rec: &[u8]) -> Result<(), (u8, usize)> {
         Some(column) => Err((5, column)),
         None => Ok(()),
     }
+}
+
+/// Whether the columns are judged as a continuation.
+pub fn is_continuation(rec: &[u8]) -> bool {
+    rec.get(38).is_some_and(|number| continues(*number))
+}
+
+/// The first column of the leftmost field that holds nothing legal. A byte that
+/// is missing is legal in no field.
+pub fn first_bad(rec: &[u8]) -> Option<usize> {
+    let middle = if is_continuation(rec) { CONTINUATION } else { PRIMARY };
+    let mut fields = HEAD.iter().chain(middle).chain(TAIL);
+    let legal = |field: &&Field| rec.get(field.0 - 1..field.1).is_some_and(|content| (field.2)(content, rec));
+    fields.find(|field| !legal(field)).map(|field| field.0)
 }
 
 /// The first blank member of the leftmost group that is neither all filled nor

@@ -4,6 +4,7 @@
 //!
 //! - `layout`: the columns of both kinds of record and what each may hold
 //! - `judge`: the three stages a record goes through (3, 4, 5)
+//! - `columns`: the worked vectors of the columns, and what this program answers to them
 //! - `parts`: the typed parts of a record
 //! - `record`: from 133 bytes to parts, and back
 //! - `cases`: the stored set of records
@@ -24,6 +25,7 @@
 
 pub mod answers;
 pub mod cases;
+pub mod columns;
 pub mod compare;
 pub mod file;
 pub mod files;
@@ -49,16 +51,17 @@ pub use record::{read, write};
 /// A stored file, by its path from this package, and what it holds.
 pub type Stored = (&'static str, Vec<u8>);
 
-/// All stored files: of records, of files, of logs and lists, of picks, of
-/// folders.
+/// All stored files: of columns, of records, of files, of logs and lists, of
+/// picks, of folders.
 pub fn stored_files() -> Vec<Stored> {
     let set = cases::all();
     let records = [
         ("../crates/vectors_record/data/records.bin", cases::stored(&set)),
         ("../crates/vectors_record/stdout", report::all(&set).into_bytes()),
     ];
-    records
+    columns::stored_files()
         .into_iter()
+        .chain(records)
         .chain(files::stored_files())
         .chain(logs::stored_files())
         .chain(pick_vectors::stored_files())

@@ -109,14 +109,15 @@ impl Refusal {
         Refusal::of(Refusal::NEEDED_BLANK, place, column)
     }
 
-    // A continuation's number is not the next one, or a continuation is missing.
+    // The continuation of the last record is missing, and the place is the one behind that record.
     pub fn continuation_number(place: usize) -> Refusal
         ensures { λ r. ⌜ r ≡ continuationNumber place ⌝ }
     {
         Refusal::of(Refusal::CONTINUATION, place, 39)
     }
 
-    // A continuation differs from its primary at the column, one of 1 to 38.
+    // The record is no right continuation, or stands where a continuation has to come. The column is 39 for a number that is not the next
+    // one and for a primary in a continuation's stead, else the first of 1 to 38 in which a continuation differs from its primary.
     pub fn continuation_head(place: usize, column: usize) -> Refusal
         ensures { λ r. ⌜ r ≡ continuationHead place column ⌝ }
     {

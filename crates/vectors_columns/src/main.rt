@@ -1,5 +1,6 @@
 // For each line of records.txt: which kind of record it is, and the first column of its leftmost field that holds nothing legal, or 0.
-// At most 65,536 bytes are read. The lines and what is to be printed are made by tools/column-vectors of the vectors that crates/columns proves.
+// At most 65,536 bytes are read. The lines are the records of the worked vectors that crates/columns proves; they and what is to be printed
+// are made by the program in reference/.
 use columns::Kind;
 use libc::STDOUT_FILENO;
 
