@@ -5,24 +5,27 @@ mod texts;
 
 ghost use lib.ListN.{length};
 ghost use Rattle.answers.specs.Answers.{pickAnswer, newfileAnswer, checkAnswer, Leaves};
+use corrections::LONGEST_LOG;
+use corrections::MOST_CORRECTIONS;
 use pieces::kept;
 use refusals::Verdict;
+use routes::LINE_WIDTH;
 use texts::put_counts;
 use texts::put_no;
 use texts::put_picked;
 
 // No answer of `pick_answer` or `check_answer` is longer: 13 bytes of counts, and 9 for each of 200 corrections.
-pub const LONGEST_LINES: usize = 1813;
+pub const LONGEST_LINES: usize = 13 + 9 * MOST_CORRECTIONS;
 
 // No new file is longer; what is shorter is too short for one.
-pub const LONGEST_FILE: usize = 63840;
+pub const LONGEST_FILE: usize = routes::LONGEST_FILE;
 
 // As much as the programs read of frozen.txt, log.txt and want.txt: one byte past the limit, so that a file that is too long is seen to be.
-pub const FROZEN_READ: usize = 63841;
+pub const FROZEN_READ: usize = LONGEST_FILE + 1;
 
-pub const LOG_READ: usize = 60001;
+pub const LOG_READ: usize = LONGEST_LOG + 1;
 
-pub const WANT_READ: usize = 801;
+pub const WANT_READ: usize = 4 * MOST_CORRECTIONS + 1;
 
 // What `pick` prints: the corrections taken, or the refusal. Where the buffer has no room for it nothing is written; zeros past it.
 pub fn pick_answer<'a>(frozen: &'a [u8], log: &'a [u8], want: &[u8], out: &mut [u8]) -> usize
@@ -48,7 +51,7 @@ pub fn newfile_answer<'a>(frozen: &'a [u8], log: &'a [u8], want: &[u8], out: &mu
     let verdict = picked.verdict;
     let records = picked.records;
     match verdict {
-        Verdict::Accepted => records.count * 133,
+        Verdict::Accepted => records.count * LINE_WIDTH,
         Verdict::Refused(r) => {
             let end = put_no(r, &mut *out);
             kept(&mut *out, end)

@@ -21,7 +21,7 @@ use Rattle.history.specs.Format as H
 use Rattle.history.specs.Apply.{Op, Correction, apply, applyAll, touchedAccepted, correct, run}
 use Rattle.history.specs.Sets.{Numbers, chooseFrom}
 use Rattle.history.proofs.Cases.{every-some}
-use Rattle.applying.specs.Apply.{recordOf, lineApplied, linesApplied, touchedJudged}
+use Rattle.applying.specs.Apply.{recordOfLine, lineApplied, linesApplied, touchedJudged}
 use Rattle.applying.specs.Correct.{Outcome, stopped, reached, afterLines, afterJudging, corrected}
 use Rattle.applying.specs.Run.{onward, ran}
 use Rattle.applying.specs.Procedures.{procedures, operation, operations}
@@ -49,7 +49,7 @@ module _ (f l : List ℕ) where
   unfolding lineApplied operation apply
   line-records e xs more w p =
       split (eqb (e .letter) (code "D"))
-      (λ t. rw t (out-records f l (recordOf f l e) xs (rw t at w) (p .rises) (p .wide)))
+      (λ t. rw t (out-records f l (recordOfLine f l e) xs (rw t at w) (p .rises) (p .wide)))
       (λ t. rw t (put-records f l (1000000 + e .at) xs (room t)))
     where
       room : eqb (e .letter) (code "D") ≡ false → length xs < 480

@@ -23,7 +23,7 @@ use Rattle.routes.specs.Sources.{recordAt}
 use Rattle.history.specs.Format as H
 use Rattle.history.specs.Apply.{takenOut, putIn}
 use Rattle.history.proofs.Local.{taken-here, taken-there, put-here, put-there, put-full, above-trans}
-use Rattle.applying.specs.State.{reached, putAt, leftOut, notBefore, before, hasPlace, isRecord, withSource, withoutRecord}
+use Rattle.applying.specs.State.{notLess, putAt, leftOut, notBefore, countBefore, hasPlace, isRecord, withSource, withoutRecord}
 use Rattle.applying.specs.Procedures.{procedures}
 
 -- the records that some sources stand for
@@ -55,7 +55,7 @@ module _ (f l : List ℕ) where
   -- what is put in, where there is room
   placedIn : ℕ → List ℕ → Option (List ℕ)
   placedIn s xs =
-      let i = before f l (recordAt f l s) xs in
+      let i = countBefore f l (recordAt f l s) xs in
       cond (hasPlace f l (recordAt f l s) (drop i xs)) none (some (putAt i s xs))
 
   module _ (s x : ℕ) (xs : List ℕ) where
@@ -63,27 +63,27 @@ module _ (f l : List ℕ) where
     compared = order (placeOf (recordAt f l x)) (placeOf (recordAt f l s))
 
     placed-later : compared ≡ Less → placedIn s (x ∷ xs) ≡ Option·map (λ (ys : List ℕ). x ∷ ys) (placedIn s xs)
-    unfolding compared placedIn before firstAt notBefore putAt
-    placed-later e = rw e (by (hasPlace f l (recordAt f l s) (drop (before f l (recordAt f l s) xs) xs)))
+    unfolding compared placedIn countBefore firstAt notBefore putAt
+    placed-later e = rw e (by (hasPlace f l (recordAt f l s) (drop (countBefore f l (recordAt f l s) xs) xs)))
       where
         i : ℕ
-        i = before f l (recordAt f l s) xs
+        i = countBefore f l (recordAt f l s) xs
 
         by : (t : Bool) → cond t none (some (putAt (suc i) s (x ∷ xs))) ≡ Option·map (λ (ys : List ℕ). x ∷ ys) (cond t none (some (putAt i s xs)))
         by true = refl
         by false = refl
 
     placed-taken : compared ≡ Equal → placedIn s (x ∷ xs) ≡ none
-    unfolding compared placedIn before firstAt notBefore hasPlace equal
+    unfolding compared placedIn countBefore firstAt notBefore hasPlace equal
     placed-taken e = rw (e, e)
 
     placed-here : compared ≡ Greater → placedIn s (x ∷ xs) ≡ some (s ∷ x ∷ xs)
-    unfolding compared placedIn before firstAt notBefore hasPlace equal putAt
+    unfolding compared placedIn countBefore firstAt notBefore hasPlace equal putAt
     placed-here e = rw (e, e)
 
   -- one more source is one more record in its place
   placed-records : (s : ℕ) (xs : List ℕ) → Option·map (recordsOf f l) (placedIn s xs) ≡ putIn procedures (recordAt f l s) (recordsOf f l xs)
-  unfolding compared placedIn before firstAt hasPlace putAt putIn
+  unfolding compared placedIn countBefore firstAt hasPlace putAt putIn
   placed-records s [] = refl
   placed-records s (x ∷ xs) = by (compared s x xs) refl (placed-records s xs)
     where
@@ -120,22 +120,22 @@ module _ (f l : List ℕ) where
     facing = order (placeOf (recordAt f l x)) (placeOf rec)
 
     out-later : facing ≡ Less → withoutRecord f l rec (x ∷ xs) ≡ Option·map (λ (ys : List ℕ). x ∷ ys) (withoutRecord f l rec xs)
-    unfolding facing withoutRecord before firstAt notBefore leftOut
-    out-later e = rw e (by (isRecord f l rec (drop (before f l rec xs) xs)))
+    unfolding facing withoutRecord countBefore firstAt notBefore leftOut
+    out-later e = rw e (by (isRecord f l rec (drop (countBefore f l rec xs) xs)))
       where
         i : ℕ
-        i = before f l rec xs
+        i = countBefore f l rec xs
 
         by : (t : Bool) → cond t (some (leftOut (suc i) (x ∷ xs))) none ≡ Option·map (λ (ys : List ℕ). x ∷ ys) (cond t (some (leftOut i xs)) none)
         by true = refl
         by false = refl
 
-    out-here : reached facing ≡ true → rec ≡ recordAt f l x → withoutRecord f l rec (x ∷ xs) ≡ some xs
-    unfolding facing withoutRecord before firstAt notBefore leftOut isRecord
+    out-here : notLess facing ≡ true → rec ≡ recordAt f l x → withoutRecord f l rec (x ∷ xs) ≡ some xs
+    unfolding facing withoutRecord countBefore firstAt notBefore leftOut isRecord
     out-here t e = rw (t, equal-iff (part 132 0 (recordAt f l x)) (part 132 0 rec) .1 (ap (part 132 0) (sym e)))
 
-    out-none : reached facing ≡ true → (rec ≡ recordAt f l x → ⊥) → withoutRecord f l rec (x ∷ xs) ≡ none
-    unfolding facing withoutRecord before firstAt notBefore leftOut isRecord
+    out-none : notLess facing ≡ true → (rec ≡ recordAt f l x → ⊥) → withoutRecord f l rec (x ∷ xs) ≡ none
+    unfolding facing withoutRecord countBefore firstAt notBefore leftOut isRecord
     out-none t n =
         split (equal (part 132 0 (recordAt f l x)) (part 132 0 rec))
         (λ e. absurd (n (sym (wide-part rec w) ∙ sym (equal-iff (part 132 0 (recordAt f l x)) (part 132 0 rec) .0 e) ∙ wide-part (recordAt f l x) v)))
@@ -144,7 +144,7 @@ module _ (f l : List ℕ) where
   -- The search by place comes to the only record that can be the one sought, since places rise.
   pub out-records : (rec : List ℕ) (xs : List ℕ) → Wide rec → H.Rising procedures (recordsOf f l xs) → Every Wide (recordsOf f l xs)
       → Option·map (recordsOf f l) (withoutRecord f l rec xs) ≡ takenOut procedures rec (recordsOf f l xs)
-  unfolding withoutRecord before firstAt isRecord takenOut facing
+  unfolding withoutRecord countBefore firstAt isRecord takenOut facing
   out-records rec [] w a v = refl
   out-records rec (x ∷ xs) w a v = by (facing rec w x (v .0) xs) refl (out-records rec xs w (a .1) (v .1))
     where
@@ -154,7 +154,7 @@ module _ (f l : List ℕ) where
       rest : List (List ℕ)
       rest = recordsOf f l xs
 
-      absent : reached (order (placeOf y) (placeOf rec)) ≡ true → (rec ≡ y → ⊥) → H.Above procedures (placeOf rec) rest
+      absent : notLess (order (placeOf y) (placeOf rec)) ≡ true → (rec ≡ y → ⊥) → H.Above procedures (placeOf rec) rest
           → Option·map (recordsOf f l) (withoutRecord f l rec (x ∷ xs)) ≡ takenOut procedures rec (y ∷ rest)
       absent t n b =
           ap (Option·map (recordsOf f l)) (out-none rec w x (v .0) xs t n)
@@ -176,12 +176,12 @@ module _ (f l : List ℕ) where
           split (equal rec y)
           (λ t.
           let q = equal-iff rec y .0 t in
-          ap (Option·map (recordsOf f l)) (out-here rec w x (v .0) xs (ap reached e) q) ∙ sym (taken-here procedures rec y rest q))
+          ap (Option·map (recordsOf f l)) (out-here rec w x (v .0) xs (ap notLess e) q) ∙ sym (taken-here procedures rec y rest q))
           (λ t.
-          absent (ap reached e) (λ q. false≢true (sym t ∙ equal-iff rec y .1 q))
+          absent (ap notLess e) (λ q. false≢true (sym t ∙ equal-iff rec y .1 q))
           (subst (λ (p : List ℕ). H.Above procedures p rest) (order-equal (placeOf y) (placeOf rec) e) (a .0)))
       by Greater e ih =
-          absent (ap reached e) (other e greater-equal)
+          absent (ap notLess e) (other e greater-equal)
           (above-trans procedures (placeOf rec) (placeOf y) rest (order-turned (placeOf y) (placeOf rec) ∙ ap turned e) (a .0))
         where
           greater-equal : Greater ≡ Equal → ⊥

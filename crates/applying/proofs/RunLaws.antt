@@ -20,7 +20,7 @@ use Rattle.routes.specs.declared.Sources.{Sources}
 use Rattle.applying.specs.Apply.{entryAt, entriesFrom}
 use Rattle.applying.specs.Correct.{Outcome, stopped, reached, corrected, Comes, refused, stands}
 use Rattle.history.specs.Sets.{Numbers}
-use Rattle.applying.specs.Run.{leading, byCorrection, onward, ran}
+use Rattle.applying.specs.Run.{leadingLines, byCorrection, onward, ran}
 use Rattle.applying.specs.declared.correct.Corrected.{Corrected}
 
 -- ---- the lines of an index, cut in two
@@ -43,34 +43,34 @@ drop-entries index k (suc m) (suc n) h =
     let f : suc n - suc m ≡ n - m = omega arith in
     drop-entries index (k + 1) m n (omega arith) ∙ rw (e, f)
 
-leading-within : (n : ℕ) (index : Index) (k m : ℕ) → leading n (entriesFrom index k m) ≤ m
-unfolding leading entriesFrom
+leading-within : (n : ℕ) (index : Index) (k m : ℕ) → leadingLines n (entriesFrom index k m) ≤ m
+unfolding leadingLines entriesFrom
 leading-within n index k zero = omega arith
 leading-within n index k (suc m) = by (eqb (getD (index .correction) k 0) n) (leading-within n index (k + 1) m)
   where
-    by : (b : Bool) → leading n (entriesFrom index (k + 1) m) ≤ m → cond b (suc (leading n (entriesFrom index (k + 1) m))) 0 ≤ suc m
+    by : (b : Bool) → leadingLines n (entriesFrom index (k + 1) m) ≤ m → cond b (suc (leadingLines n (entriesFrom index (k + 1) m))) 0 ≤ suc m
     by true w = omega arith
     by false w = omega arith
 
 -- ---- where the lines of a correction end
 
 module _ (index : Index) (n k to : ℕ) where
-  pub leading-end : {x : ℕ} → x ≡ k + leading n (entriesFrom index k (to - k)) → to ≤ k → k ≡ x
-  unfolding leading entriesFrom
+  pub leading-end : {x : ℕ} → x ≡ k + leadingLines n (entriesFrom index k (to - k)) → to ≤ k → k ≡ x
+  unfolding leadingLines entriesFrom
   leading-end {x} e h =
       let z : to - k ≡ 0 = omega arith in
       let y : x ≡ k + 0 = e ∙ rw z in
       omega arith
 
-  module _ {x : ℕ} (e : x ≡ k + leading n (entriesFrom index k (to - k))) (h : k < to) where
+  module _ {x : ℕ} (e : x ≡ k + leadingLines n (entriesFrom index k (to - k))) (h : k < to) where
     pub leading-stop : (getD (index .correction) k 0 ≡ n → ⊥) → k ≡ x
-    unfolding leading entriesFrom
+    unfolding leadingLines entriesFrom
     leading-stop d = let y : x ≡ k + 0 = e ∙ rw (one-less to k h, ne-eqb (getD (index .correction) k 0) n d) in omega arith
 
-    pub leading-next : getD (index .correction) k 0 ≡ n → x ≡ k + 1 + leading n (entriesFrom index (k + 1) (to - (k + 1)))
-    unfolding leading entriesFrom
+    pub leading-next : getD (index .correction) k 0 ≡ n → x ≡ k + 1 + leadingLines n (entriesFrom index (k + 1) (to - (k + 1)))
+    unfolding leadingLines entriesFrom
     leading-next d =
-        let y : x ≡ k + suc (leading n (entriesFrom index (k + 1) (to - (k + 1)))) = e ∙ rw (one-less to k h, eq-eqb (getD (index .correction) k 0) n d) in
+        let y : x ≡ k + suc (leadingLines n (entriesFrom index (k + 1) (to - (k + 1)))) = e ∙ rw (one-less to k h, eq-eqb (getD (index .correction) k 0) n d) in
         omega arith
 
 -- ---- one turn
@@ -102,11 +102,11 @@ left-none : (index : Index) (n total k : ℕ) → total ≤ n → left index n t
 unfolding byCorrection
 left-none index n total k h = let z : total - n ≡ 0 = omega arith in rw z
 
-left-next : (index : Index) (n total k : ℕ) {to : ℕ} → n < total → k ≤ index .count → to ≡ k + leading (n + 1) (entriesFrom index k (index .count - k))
+left-next : (index : Index) (n total k : ℕ) {to : ℕ} → n < total → k ≤ index .count → to ≡ k + leadingLines (n + 1) (entriesFrom index k (index .count - k))
     → left index n total k ≡ entriesFrom index k (to - k) ∷ left index (n + 1) total to
 unfolding byCorrection
 left-next index n total k {to} h b t =
-    let m = leading (n + 1) (entriesFrom index k (index .count - k)) in
+    let m = leadingLines (n + 1) (entriesFrom index k (index .count - k)) in
     let v = leading-within (n + 1) index k (index .count - k) in
     let p : m ≡ to - k = omega (arith, t) in
     let q : entriesFrom index (k + m) (index .count - k - m) ≡ entriesFrom index to (index .count - to) =
@@ -116,18 +116,18 @@ left-next index n total k {to} h b t =
     (take-entries index k m (index .count - k) v ∙ ap (entriesFrom index k) p)
     (drop-entries index k m (index .count - k) v ∙ q))
 
-module _ (f l : List ℕ) (T : Numbers) (index : Index) (n total k : ℕ) (whole : Outcome) (now : Sources)
-    (w : whole ≡ ran f l T (n + 1) (left index n total k) (inUse now)) where
-  pub run-ends : total ≤ n → now .count ≤ 480 → (c : Corrected) → c .verdict ≡ Accepted → c .state ≡ now → Comes c whole
+module _ (f l : List ℕ) (T : Numbers) (index : Index) (n total k : ℕ) (whole : Outcome) (standing : Sources)
+    (w : whole ≡ ran f l T (n + 1) (left index n total k) (inUse standing)) where
+  pub run-ends : total ≤ n → standing .count ≤ 480 → (c : Corrected) → c .verdict ≡ Accepted → c .state ≡ standing → Comes c whole
   unfolding ran
   run-ends h m c v s =
-      let y : whole ≡ reached (inUse now) = w ∙ rw (left-none index n total k h) in
+      let y : whole ≡ reached (inUse standing) = w ∙ rw (left-none index n total k h) in
       subst (Comes c) (sym y) (stands v (subst (λ (t : Sources). t .count ≤ 480) (sym s) m) (ap inUse s))
 
-  module _ (h : n < total) {to : ℕ} (t : to ≡ k + leading (n + 1) (entriesFrom index k (index .count - k))) (b : k ≤ index .count) {here : Bool} (m : here ≡ T (n + 1)) (next : Corrected)
-      (g : Comes next (cond here (corrected f l (n + 1) (entriesFrom index k (to - k)) (inUse now)) (reached (inUse now)))) where
+  module _ (h : n < total) {to : ℕ} (t : to ≡ k + leadingLines (n + 1) (entriesFrom index k (index .count - k))) (b : k ≤ index .count) {here : Bool} (m : here ≡ T (n + 1)) (next : Corrected)
+      (g : Comes next (cond here (corrected f l (n + 1) (entriesFrom index k (to - k)) (inUse standing)) (reached (inUse standing)))) where
     one : Outcome
-    one = cond here (corrected f l (n + 1) (entriesFrom index k (to - k)) (inUse now)) (reached (inUse now))
+    one = cond here (corrected f l (n + 1) (entriesFrom index k (to - k)) (inUse standing)) (reached (inUse standing))
 
     turn : whole ≡ onward one (ran f l T (n + 1 + 1) (left index (n + 1) total to))
     unfolding ran one

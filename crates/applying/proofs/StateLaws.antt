@@ -19,7 +19,7 @@ use Rattle.slices.proofs.SearchLaws.{Come, starts, finds, goes-on, ends, first-
 use Rattle.routes.specs.Places.{placeOf}
 use Rattle.routes.specs.Sources.{recordAt, inUse}
 use Rattle.routes.specs.declared.Sources.{Sources}
-use Rattle.applying.specs.State.{reached, putAt, leftOut, notBefore, before, hasPlace, isRecord, withSource, withoutRecord, Gives, made, failed}
+use Rattle.applying.specs.State.{notLess, putAt, leftOut, notBefore, countBefore, hasPlace, isRecord, withSource, withoutRecord, Gives, made, failed}
 use Rattle.applying.specs.declared.state.Change.{Change}
 
 -- ---- places
@@ -67,20 +67,20 @@ module _ (st : Sources) (h : st .count ≤ 480) (long : length (st .at) ≡ 480)
   -- ---- the search
 
   module _ (f l rec : List ℕ) (i : ℕ) where
-    module _ (c : Searched st f l rec i) (k : i < st .count) (x : List ℕ) {b : Bool} (e : x ≡ recordAt f l (getD (st .at) i 0)) (t : b ≡ reached (order (placeOf x) (placeOf rec))) where
+    module _ (c : Searched st f l rec i) (k : i < st .count) (x : List ℕ) {b : Bool} (e : x ≡ recordAt f l (getD (st .at) i 0)) (t : b ≡ notLess (order (placeOf x) (placeOf rec))) where
       test : notBefore f l rec (getD (inUse st) i 0) ≡ b
       unfolding notBefore
       test = rw (in-use-at i k, ← e, ← t)
 
-      pub search-finds : b ≡ true → i ≡ before f l rec (inUse st)
-      unfolding before
+      pub search-finds : b ≡ true → i ≡ countBefore f l rec (inUse st)
+      unfolding countBefore
       search-finds q = finds (notBefore f l rec) 0 (inUse st) 0 i c (rw in-use-length k) (test ∙ q) ∙ zero-add _
 
       pub search-goes-on : b ≡ false → Searched st f l rec (i + 1)
       search-goes-on q = goes-on (notBefore f l rec) 0 (inUse st) 0 i c (rw in-use-length k) (test ∙ q)
 
-    pub search-ends : Searched st f l rec i → st .count ≤ i → i ≡ before f l rec (inUse st)
-    unfolding before
+    pub search-ends : Searched st f l rec i → st .count ≤ i → i ≡ countBefore f l rec (inUse st)
+    unfolding countBefore
     search-ends c k = ends (notBefore f l rec) 0 (inUse st) 0 i c (rw in-use-length k) ∙ zero-add _
 
     -- ---- what stands at a place
@@ -105,9 +105,9 @@ pub search-starts : (st : Sources) (f l rec : List ℕ) → Searched st f l rec 
 search-starts st f l rec = starts (notBefore f l rec) 0 (inUse st) 0
 
 -- a record's place is within the sources
-pub before-within : (f l rec xs : List ℕ) → before f l rec xs ≤ length xs
-unfolding before
-before-within f l rec xs = first-within (notBefore f l rec) xs
+pub count-within : (f l rec xs : List ℕ) → countBefore f l rec xs ≤ length xs
+unfolding countBefore
+count-within f l rec xs = first-within (notBefore f l rec) xs
 
 -- a record that stands there stands before the end
 pub record-within : (f l rec xs : List ℕ) (i : ℕ) → isRecord f l rec (drop i xs) ≡ true → i < length xs
@@ -119,7 +119,7 @@ record-within f l rec (x ∷ xs) (suc i) e = let k : i < length xs = record-with
 
 -- ---- changes
 
-module _ (f l : List ℕ) (s : ℕ) (xs : List ℕ) (rec : List ℕ) (e : rec ≡ recordAt f l s) {i : ℕ} (p : i ≡ before f l rec xs) (c : Change) where
+module _ (f l : List ℕ) (s : ℕ) (xs : List ℕ) (rec : List ℕ) (e : rec ≡ recordAt f l s) {i : ℕ} (p : i ≡ countBefore f l rec xs) (c : Change) where
   pub put-full : 480 ≤ length xs → c .done ≡ false → Gives c (withSource f l s xs)
   unfolding withSource
   put-full h d = rw (le-leb 480 (length xs) h) (failed d)
@@ -132,7 +132,7 @@ module _ (f l : List ℕ) (s : ℕ) (xs : List ℕ) (rec : List ℕ) (e : rec �
   unfolding withSource
   put-made h q t d n g = rw (lt-leb 480 (length xs) h, ← e, ← p, ← q, t) (made d n g)
 
-module _ (f l rec xs : List ℕ) {i : ℕ} (p : i ≡ before f l rec xs) (c : Change) where
+module _ (f l rec xs : List ℕ) {i : ℕ} (p : i ≡ countBefore f l rec xs) (c : Change) where
   pub take-made : {b : Bool} → b ≡ isRecord f l rec (drop i xs) → b ≡ true → c .done ≡ true → c .state .count ≤ 480 → inUse (c .state) ≡ leftOut i xs → Gives c (withoutRecord f l rec xs)
   unfolding withoutRecord
   take-made q t d n g = rw (← p, ← q, t) (made d n g)

@@ -25,7 +25,7 @@ use Rattle.routes.proofs.Routes.{no-record}
 use Rattle.history.specs.Format as H
 use Rattle.history.specs.Format.{own}
 use Rattle.history.specs.Apply.{Correction, routeOf, Touches, touchedAccepted}
-use Rattle.applying.specs.Apply.{recordOf, touched, together, touchedJudged}
+use Rattle.applying.specs.Apply.{recordOfLine, touched, together, touchedJudged}
 use Rattle.applying.specs.Procedures.{accepts, procedures, operation}
 use Rattle.applying.proofs.Procedures.{own-route, rising, accepts-iff}
 use Rattle.applying.proofs.PlacedLaws.{recordsOf}
@@ -62,7 +62,7 @@ touched-iff (o ∷ c) rs = by (touched-iff c rs)
 
 module _ (f l : List ℕ) where
   -- the route of a line is that of its record
-  line-route : (e : Entry) → routeOf procedures (operation f l e) ≡ keyOf (recordOf f l e)
+  line-route : (e : Entry) → routeOf procedures (operation f l e) ≡ keyOf (recordOfLine f l e)
   unfolding routeOf operation
   line-route e = split (eqb (e .letter) (code "D")) (λ t. rw t) (λ t. rw t)
 
@@ -72,8 +72,8 @@ module _ (f l : List ℕ) where
   names-iff [] s = (false≢true, λ t. absurd t)
   names-iff (e ∷ es) s =
       let k = keyOf (recordAt f l s) in
-      or-iff (equal (keyOf (recordOf f l e)) k) (touched f l es s)
-      (λ q. line-route e ∙ equal-iff (keyOf (recordOf f l e)) k .0 q, λ q. equal-iff (keyOf (recordOf f l e)) k .1 (sym (line-route e) ∙ q))
+      or-iff (equal (keyOf (recordOfLine f l e)) k) (touched f l es s)
+      (λ q. line-route e ∙ equal-iff (keyOf (recordOfLine f l e)) k .0 q, λ q. equal-iff (keyOf (recordOfLine f l e)) k .1 (sym (line-route e) ∙ q))
       (names-iff es s)
 
   -- ---- the sources of one route

@@ -35,12 +35,12 @@ abbrev pub sourceOf : Entry → ℕ
 sourceOf e = 1000000 + e .at
 
 module _ (frozen log : List ℕ) where
-  abbrev pub recordOf : Entry → List ℕ
-  recordOf e = recordAt frozen log (sourceOf e)
+  abbrev pub recordOfLine : Entry → List ℕ
+  recordOfLine e = recordAt frozen log (sourceOf e)
 
   -- "D: that record, byte for byte, is taken out. A: it's put in by its place."
   unfoldable pub lineApplied : Entry → List ℕ → Option (List ℕ)
-  lineApplied e xs = cond (eqb (e .letter) (code "D")) (withoutRecord frozen log (recordOf e) xs) (withSource frozen log (sourceOf e) xs)
+  lineApplied e xs = cond (eqb (e .letter) (code "D")) (withoutRecord frozen log (recordOfLine e) xs) (withSource frozen log (sourceOf e) xs)
 
   -- "Lines apply in order"
   unfoldable pub linesApplied : List Entry → List ℕ → Option (List ℕ)
@@ -50,7 +50,7 @@ module _ (frozen log : List ℕ) where
   -- a line of the correction names the route of a source
   unfoldable pub touched : List Entry → ℕ → Bool
   touched [] s = false
-  touched (e ∷ es) s = equal (keyOf (recordOf e)) (keyOf (recordAt frozen log s)) || touched es s
+  touched (e ∷ es) s = equal (keyOf (recordOfLine e)) (keyOf (recordAt frozen log s)) || touched es s
 
   -- how many of the sources in front are of one route with s
   unfoldable pub together : ℕ → List ℕ → ℕ

@@ -20,7 +20,7 @@ use Rattle.history.specs.Bytes.{ofBytes}
 use Rattle.history.specs.Apply.{Op, take-out, put-in, Correction}
 use Rattle.corrections.specs.Reading.{Entry}
 use Rattle.corrections.specs.Text.{Change, takeOut, putIn, LegalLog}
-use Rattle.applying.specs.Apply.{recordOf}
+use Rattle.applying.specs.Apply.{recordOfLine}
 
 abbrev pub isAccepted : Verdict → Bool
 isAccepted Accepted = true
@@ -44,7 +44,7 @@ procedures = ofBytes placeOf keyOf key-by-place accepts none-accepted
 -- a D line takes its record out, an A line puts it in
 module _ (frozen log : List ℕ) where
   unfoldable pub operation : Entry → Op (List ℕ)
-  operation e = cond (eqb (e .letter) (code "D")) (take-out (recordOf frozen log e)) (put-in (recordOf frozen log e))
+  operation e = cond (eqb (e .letter) (code "D")) (take-out (recordOfLine frozen log e)) (put-in (recordOfLine frozen log e))
 
   unfoldable pub operations : List (List Entry) → List (Correction procedures)
   operations ess = map (map operation) ess

@@ -10,14 +10,14 @@ use Rattle.corrections.specs.Reading.{Entry}
 use Rattle.applying.specs.Correct.{Outcome, stopped, reached, corrected}
 
 -- how many of the lines in front are of correction n
-unfoldable pub leading : ℕ → List Entry → ℕ
-leading n [] = 0
-leading n (e ∷ es) = cond (eqb (e .correction) n) (suc (leading n es)) 0
+unfoldable pub leadingLines : ℕ → List Entry → ℕ
+leadingLines n [] = 0
+leadingLines n (e ∷ es) = cond (eqb (e .correction) n) (suc (leadingLines n es)) 0
 
 -- the lines of m corrections from number n on, each correction's by themselves
 unfoldable pub byCorrection : (n m : ℕ) → List Entry → List (List Entry)
 byCorrection n zero es = []
-byCorrection n (suc m) es = take (leading n es) es ∷ byCorrection (n + 1) m (drop (leading n es) es)
+byCorrection n (suc m) es = take (leadingLines n es) es ∷ byCorrection (n + 1) m (drop (leadingLines n es) es)
 
 -- from where one outcome leaves the records, or no further
 abbrev pub onward : Outcome → (List ℕ → Outcome) → Outcome

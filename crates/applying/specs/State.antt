@@ -16,10 +16,11 @@ use Rattle.routes.specs.Places.{placeOf}
 use Rattle.routes.specs.Sources.{recordAt, inUse}
 use Rattle.applying.specs.declared.state.Change.{Change}
 
-abbrev pub reached : Ordering → Bool
-reached Less = false
-reached Equal = true
-reached Greater = true
+-- the first of two stands level with the second, or after it
+abbrev pub notLess : Ordering → Bool
+notLess Less = false
+notLess Equal = true
+notLess Greater = true
 
 -- the list with one more at a place, and with the one at a place left out
 unfoldable pub putAt : {A : Type 0} → ℕ → A → List A → List A
@@ -31,11 +32,11 @@ leftOut i xs = take i xs ++ drop (suc i) xs
 module _ (frozen log : List ℕ) where
   -- the source's record does not stand before rec
   unfoldable pub notBefore : List ℕ → ℕ → Bool
-  notBefore rec s = reached (order (placeOf (recordAt frozen log s)) (placeOf rec))
+  notBefore rec s = notLess (order (placeOf (recordAt frozen log s)) (placeOf rec))
 
   -- how many stand before a record
-  unfoldable pub before : List ℕ → List ℕ → ℕ
-  before rec xs = firstAt (notBefore rec) xs
+  unfoldable pub countBefore : List ℕ → List ℕ → ℕ
+  countBefore rec xs = firstAt (notBefore rec) xs
 
   -- the first of the sources has the record's place; is the record, byte for byte
   unfoldable pub hasPlace : List ℕ → List ℕ → Bool
@@ -50,12 +51,12 @@ module _ (frozen log : List ℕ) where
   unfoldable pub withSource : ℕ → List ℕ → Option (List ℕ)
   withSource s xs =
       let rec = recordAt frozen log s in
-      let i = before rec xs in
+      let i = countBefore rec xs in
       cond (leb 480 (length xs)) none (cond (hasPlace rec (drop i xs)) none (some (putAt i s xs)))
 
   -- "D: that record, byte for byte, is taken out"; not where another record, or none, has its place
   unfoldable pub withoutRecord : List ℕ → List ℕ → Option (List ℕ)
-  withoutRecord rec xs = let i = before rec xs in cond (isRecord rec (drop i xs)) (some (leftOut i xs)) none
+  withoutRecord rec xs = let i = countBefore rec xs in cond (isRecord rec (drop i xs)) (some (leftOut i xs)) none
 
 -- a change as the code gives it: done, with the sources that it comes to; or not done
 pub data Gives (c : Change) : Option (List ℕ) → Type 0 where

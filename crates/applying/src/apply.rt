@@ -11,6 +11,7 @@ use crate::state::Change;
 use crate::state::put_in;
 use crate::state::take_out;
 use corrections::Index;
+use routes::FIRST_OF_LOG;
 use routes::Sources;
 use routes::record_at;
 
@@ -26,7 +27,7 @@ fn apply_line<'a>(
     requires { ⌜ (state .count ≤ 480) × (at ≤ 60000) ⌝ }
     ensures { λ c. ⌜ Gives c (lineApplied (now (frozen .entry)) (now (log .entry)) (entry letter at n) (inUse state)) ⌝ }
 {
-    let source = 1000000 + at;
+    let source = FIRST_OF_LOG + at;
     if letter == b'D' {
         let rec = record_at(frozen, log, source);
         return take_out(frozen, log, state, rec);
@@ -46,21 +47,21 @@ pub(crate) fn apply_lines<'a>(
     requires { ⌜ (state .count ≤ 480) × (to ≤ 444) × Within index ⌝ }
     ensures { λ c. ⌜ Gives c (linesApplied (now (frozen .entry)) (now (log .entry)) (entriesFrom index from (to - from)) (inUse state)) ⌝ }
 {
-    let mut now = state;
+    let mut standing = state;
     let mut k = from;
     while k < to {
         let letter = index.kind[k];
         let at = index.at[k];
         let n = index.correction[k];
-        let change = apply_line(frozen, log, now, letter, at, n);
+        let change = apply_line(frozen, log, standing, letter, at, n);
         if !change.done {
             return change;
         }
-        now = change.state;
+        standing = change.state;
         k += 1;
     }
     Change {
         done: true,
-        state: now,
+        state: standing,
     }
 }

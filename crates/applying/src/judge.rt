@@ -18,6 +18,7 @@ use crate::known::knows;
 use crate::same_route;
 use corrections::Index;
 use refusals::Verdict;
+use routes::FIRST_OF_LOG;
 use routes::Sources;
 use routes::finish;
 use routes::judge_behind;
@@ -40,7 +41,7 @@ fn touches<'a>(
     let mut k = from;
     while k < to {
         let at = index.at[k];
-        if same_route(frozen, log, 1000000 + at, source) {
+        if same_route(frozen, log, FIRST_OF_LOG + at, source) {
             return true;
         }
         k += 1;

@@ -6,19 +6,27 @@ ghost use mathlib.Core.Path.{_≡_};
 ghost use Prim.Native.Nat.{_≤_};
 ghost use Rattle.applying.specs.Apply.{Within};
 ghost use Rattle.applying.specs.Known.{slot, knows, Known};
+use corrections::CHANGE_WIDTH;
 use corrections::Index;
+use corrections::MOST_CHANGES;
+use refusals::MOST_RECORDS;
 use refusals::Verdict;
+use routes::FIRST_OF_LOG;
+use routes::LINE_WIDTH;
 use routes::Sources;
 use routes::record_at;
+
+// How many slots there are: one for each record of a file, and one for each D or A line.
+const MOST_KNOWN: usize = MOST_RECORDS + MOST_CHANGES;
 
 // The slot of a source in the table.
 fn slot(source: u32) -> usize
     ensures { λ r. ⌜ r ≡ slot source ⌝ }
 {
-    if source < 1000000 {
-        return (source / 133) as usize;
+    if source < FIRST_OF_LOG {
+        return source as usize / LINE_WIDTH;
     }
-    480 + ((source - 1000000) / 135) as usize
+    MOST_RECORDS + (source - FIRST_OF_LOG) as usize / CHANGE_WIDTH
 }
 
 // Whether the table knows the record of a source.
@@ -77,7 +85,7 @@ fn learn_line<'a>(frozen: &'a [u8], log: &'a [u8], letter: u8, at: u32, known: &
     if letter != b'A' {
         return;
     }
-    learn(frozen, log, 1000000 + at, &mut *known);
+    learn(frozen, log, FIRST_OF_LOG + at, &mut *known);
 }
 
 // Puts the records of an index's A lines into the table.
@@ -101,11 +109,11 @@ pub(crate) fn known_of<'a>(
     log: &'a [u8],
     index: Index,
     state: Sources,
-) -> [u32; 924]
+) -> [u32; MOST_KNOWN]
     requires { ⌜ (state .count ≤ 480) × (index .count ≤ 444) × Within index ⌝ }
     ensures { λ r. ⌜ Known (now (frozen .entry)) (now (log .entry)) r ⌝ }
 {
-    let mut known = [0u32; 924];
+    let mut known = [0u32; MOST_KNOWN];
     learn_records(frozen, log, state, &mut known);
     learn_lines(frozen, log, index, &mut known);
     known

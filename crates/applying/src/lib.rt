@@ -1,6 +1,7 @@
 // The corrections of a log applied to the records of a file, which are given by their sources. Assumes nothing of the caller: any slices,
 // any index, any marks, any sources.
 mod apply;
+mod bounds;
 mod correct;
 mod judge;
 mod known;
@@ -11,23 +12,38 @@ ghost use mathlib.Core.Path.{_≡_};
 ghost use Rattle.slices.specs.Order.{equal};
 ghost use Rattle.routes.specs.Places.{keyOf};
 ghost use Rattle.routes.specs.Sources.{recordAt};
+ghost use Rattle.applying.specs.Correct.{stopped};
 ghost use Rattle.applying.specs.Run.{marked};
 ghost use Rattle.applying.specs.Bounds.{ranOver, ranAs};
+use bounds::bounds;
 use corrections::Index;
 use known::known_of;
+use refusals::MOST_RECORDS;
+use refusals::Refusal;
 use refusals::Verdict;
 use routes::Sources;
 use routes::record_at;
-use series::bounds;
-use series::cleared;
-use series::refused_run;
 use series::run_marked;
+use state::cleared;
 
 // What some corrections come to: the refusal, or where the records lie that they leave; nothing but zeros beside a refusal, and zeros past
 // the count.
 pub struct Ran {
     pub verdict: Verdict,
     pub records: Sources,
+}
+
+// What is left on a refusal: nothing but zeros beside it.
+fn refused_run(refusal: Refusal) -> Ran
+    ensures { λ r. ⌜ r ≡ ranAs (stopped refusal) ⌝ }
+{
+    Ran {
+        verdict: Verdict::Refused(refusal),
+        records: Sources {
+            count: 0,
+            at: [0u32; MOST_RECORDS],
+        },
+    }
 }
 
 // Whether the records of two sources are of one route.

@@ -5,8 +5,10 @@ ghost use Prim.Native.Nat.{_≤_, _<_};
 ghost use lib.ListN.{drop};
 ghost use Rattle.slices.specs.Order.{order};
 ghost use Rattle.routes.specs.Places.{placeOf};
-ghost use Rattle.routes.specs.Sources.{inUse};
-ghost use Rattle.applying.specs.State.{reached, putAt, leftOut, before, hasPlace, isRecord, withSource, withoutRecord, Gives};
+ghost use Rattle.routes.specs.Sources.{inUse, sourcesFor};
+ghost use Rattle.applying.specs.State.{notLess, putAt, leftOut, countBefore, hasPlace, isRecord, withSource, withoutRecord, Gives};
+use refusals::MOST_RECORDS;
+use routes::RECORD_WIDTH;
 use routes::Sources;
 use routes::record_at;
 use slices::Ordering;
@@ -41,7 +43,7 @@ fn place_order(a: &[u8], b: &[u8]) -> Ordering
 
 // Whether the first record's place is not before the second's.
 fn reaches(a: &[u8], b: &[u8]) -> bool
-    ensures { λ r. ⌜ r ≡ reached (order (placeOf (now (a .entry))) (placeOf (now (b .entry)))) ⌝ }
+    ensures { λ r. ⌜ r ≡ notLess (order (placeOf (now (a .entry))) (placeOf (now (b .entry)))) ⌝ }
 {
     let way = place_order(a, b);
     match way {
@@ -52,9 +54,9 @@ fn reaches(a: &[u8], b: &[u8]) -> bool
 }
 
 // How many records stand before one.
-fn before<'a>(frozen: &'a [u8], log: &'a [u8], state: Sources, rec: &'a [u8]) -> usize
+fn count_before<'a>(frozen: &'a [u8], log: &'a [u8], state: Sources, rec: &'a [u8]) -> usize
     requires { ⌜ state .count ≤ 480 ⌝ }
-    ensures { λ i. ⌜ i ≡ before (now (frozen .entry)) (now (log .entry)) (now (rec .entry)) (inUse state) ⌝ }
+    ensures { λ i. ⌜ i ≡ countBefore (now (frozen .entry)) (now (log .entry)) (now (rec .entry)) (inUse state) ⌝ }
 {
     let count = state.count;
     let mut i = 0;
@@ -99,7 +101,7 @@ fn is_record<'a>(frozen: &'a [u8], log: &'a [u8], state: Sources, i: usize, rec:
     }
     let source = state.at[i];
     let other = record_at(frozen, log, source);
-    same(other, 0, rec, 0, 132)
+    same(other, 0, rec, 0, RECORD_WIDTH)
 }
 
 // The state with one more source at i: what stood there and behind it moves one on.
@@ -144,8 +146,8 @@ pub(crate) fn put_in<'a>(frozen: &'a [u8], log: &'a [u8], state: Sources, source
 {
     let count = state.count;
     let rec = record_at(frozen, log, source);
-    let i = before(frozen, log, state, rec);
-    if 480 <= count {
+    let i = count_before(frozen, log, state, rec);
+    if MOST_RECORDS <= count {
         return Change {
             done: false,
             state: state,
@@ -169,7 +171,7 @@ pub(crate) fn take_out<'a>(frozen: &'a [u8], log: &'a [u8], state: Sources, rec:
     requires { ⌜ state .count ≤ 480 ⌝ }
     ensures { λ c. ⌜ Gives c (withoutRecord (now (frozen .entry)) (now (log .entry)) (now (rec .entry)) (inUse state)) ⌝ }
 {
-    let i = before(frozen, log, state, rec);
+    let i = count_before(frozen, log, state, rec);
     if is_record(frozen, log, state, i, rec) {
         let next = left_out(state, i);
         return Change {
@@ -181,4 +183,18 @@ pub(crate) fn take_out<'a>(frozen: &'a [u8], log: &'a [u8], state: Sources, rec:
         done: false,
         state: state,
     }
+}
+
+// The state with zeros past the sources that count.
+pub(crate) fn cleared(state: Sources) -> Sources
+    requires { ⌜ state .count ≤ 480 ⌝ }
+    ensures { λ r. ⌜ r ≡ sourcesFor (inUse state) ⌝ }
+{
+    let mut next = state;
+    let mut k = state.count;
+    while k < MOST_RECORDS {
+        next.at[k] = 0;
+        k += 1;
+    }
+    next
 }

@@ -20,8 +20,19 @@ ghost use Rattle.corrections.specs.Reading.{
   grown,
 };
 use lines::Line;
+use refusals::MOST_RECORDS;
 use refusals::Refusal;
 use refusals::Verdict;
+
+// How many bytes a log has at most, and how many corrections.
+pub const LONGEST_LOG: usize = 60000;
+
+pub const MOST_CORRECTIONS: usize = 200;
+
+// How many bytes a D or A line has, its line feed among them, and how many such lines a log has at most.
+pub const CHANGE_WIDTH: usize = 135;
+
+pub const MOST_CHANGES: usize = LONGEST_LOG / CHANGE_WIDTH;
 
 // What a log says. `corrections` is how many it has, `count` how many D and A lines; for each of these, in their order, its letter, the
 // offset of its 132 bytes in the log and the number of its correction. A log of 60,000 bytes has no more than 444 such lines.
@@ -29,9 +40,9 @@ pub struct Index {
     pub verdict: Verdict,
     pub corrections: usize,
     pub count: usize,
-    pub kind: [u8; 444],
-    pub at: [u32; 444],
-    pub correction: [u32; 444],
+    pub kind: [u8; MOST_CHANGES],
+    pub at: [u32; MOST_CHANGES],
+    pub correction: [u32; MOST_CHANGES],
 }
 
 // The index before the first line.
@@ -42,9 +53,9 @@ fn empty() -> Index
         verdict: Verdict::Accepted,
         corrections: 0,
         count: 0,
-        kind: [0u8; 444],
-        at: [0u32; 444],
-        correction: [0u32; 444],
+        kind: [0u8; MOST_CHANGES],
+        at: [0u32; MOST_CHANGES],
+        correction: [0u32; MOST_CHANGES],
     }
 }
 
@@ -56,9 +67,9 @@ pub fn refused_by(refusal: Refusal) -> Index
         verdict: Verdict::Refused(refusal),
         corrections: 0,
         count: 0,
-        kind: [0u8; 444],
-        at: [0u32; 444],
-        correction: [0u32; 444],
+        kind: [0u8; MOST_CHANGES],
+        at: [0u32; MOST_CHANGES],
+        correction: [0u32; MOST_CHANGES],
     }
 }
 
@@ -66,7 +77,11 @@ pub fn refused_by(refusal: Refusal) -> Index
 fn room_beside(frozen: usize) -> usize
     ensures { λ r. ⌜ r ≡ 480 - frozen ⌝ }
 {
-    if frozen < 480 { 480 - frozen } else { 0 }
+    if frozen < MOST_RECORDS {
+        MOST_RECORDS - frozen
+    } else {
+        0
+    }
 }
 
 // How many have room after a line.
@@ -92,7 +107,7 @@ fn judge_line(line: Line, number: usize, begun: usize, room: usize) -> Verdict
 {
     match line {
         Line::Heading => {
-            if begun < 200 {
+            if begun < MOST_CORRECTIONS {
                 return Verdict::Accepted;
             }
             Verdict::Refused(Refusal::too_many_corrections(number))
@@ -115,8 +130,8 @@ fn width(line: Line, begun: usize) -> usize
 {
     match line {
         Line::Heading => lines::heading_width(begun + 1),
-        Line::TakenOut => 135,
-        Line::PutIn => 135,
+        Line::TakenOut => CHANGE_WIDTH,
+        Line::PutIn => CHANGE_WIDTH,
         Line::Stopped(column) => column,
     }
 }
@@ -165,7 +180,7 @@ fn with_line(found: Index, line: Line, at: usize) -> Index
 pub fn index_of(log: &[u8], frozen: usize) -> Index
     ensures { λ r. ⌜ r ≡ indexOf (readLog (now (log .entry)) frozen) ⌝ }
 {
-    if 60000 < log.len() {
+    if LONGEST_LOG < log.len() {
         return refused_by(Refusal::log_too_long());
     }
     let mut found = empty();

@@ -7,6 +7,7 @@ ghost use Prim.Native.Nat.{suc, _+_, _/_, _%_, _<_, _≤_, max};
 ghost use lib.ListN.{length, replicate};
 ghost use Rattle.digits.specs.Decimal.{decimal};
 ghost use Rattle.corrections.specs.Lines.{exactly, printable, ended, heading, change, reachAt, lineAt};
+use crate::CHANGE_WIDTH;
 use slices::byte_at;
 
 pub enum Line {
@@ -166,11 +167,11 @@ pub(crate) fn line_at(log: &[u8], i: usize, begun: usize) -> Line
         return Line::Stopped(headed + 1);
     }
     let taken = reach_change(log, i, b'D');
-    if taken == 135 {
+    if taken == CHANGE_WIDTH {
         return Line::TakenOut;
     }
     let put = reach_change(log, i, b'A');
-    if put == 135 {
+    if put == CHANGE_WIDTH {
         return Line::PutIn;
     }
     Line::Stopped(greater(headed, greater(taken, put)) + 1)

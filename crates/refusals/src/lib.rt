@@ -24,6 +24,11 @@ ghost use Rattle.refusals.specs.Table.{
   stated,
 };
 
+// How many records a file has at most, and the place of the first that is too many.
+pub const MOST_RECORDS: usize = 480;
+
+const RECORD_TOO_MANY: usize = MOST_RECORDS + 1;
+
 pub struct Refusal {
     pub number: u8,
     pub place: usize,
@@ -85,7 +90,7 @@ impl Refusal {
     pub fn too_many_records() -> Refusal
         ensures { λ r. ⌜ r ≡ tooManyRecords ⌝ }
     {
-        Refusal::of(Refusal::TOO_MANY_RECORDS, 481, 0)
+        Refusal::of(Refusal::TOO_MANY_RECORDS, RECORD_TOO_MANY, 0)
     }
 
     // The field that begins at the column holds nothing legal.

@@ -14,6 +14,7 @@ ghost use Rattle.routes.specs.Stages.{seen, nothing};
 ghost use Rattle.routes.specs.Walk.{judgedBehind, judgedNext, primaryAfter, walkFrom, finished, walked};
 ghost use Rattle.routes.specs.Files.{tailStage, fileVerdict};
 use columns::Kind;
+use refusals::MOST_RECORDS;
 use refusals::Refusal;
 use refusals::Verdict;
 use slices::least;
@@ -25,10 +26,20 @@ const HEAD: usize = 38;
 
 const NUMBER: usize = 39;
 
+// How many bytes a record has, how many with its line feed, and how many a file has at most.
+pub const RECORD_WIDTH: usize = 132;
+
+pub const LINE_WIDTH: usize = RECORD_WIDTH + 1;
+
+pub const LONGEST_FILE: usize = MOST_RECORDS * LINE_WIDTH;
+
+// From this number on a source is one of the log; below it, one of the frozen file.
+pub const FIRST_OF_LOG: u32 = 1000000;
+
 // Where records lie, at most 480 of them; zeros past the count.
 pub struct Sources {
     pub count: usize,
-    pub at: [u32; 480],
+    pub at: [u32; MOST_RECORDS],
 }
 
 // The record of a source: below 1,000,000 the 132 bytes at that offset of the frozen file, else those at the rest of the log. Empty where
@@ -36,10 +47,10 @@ pub struct Sources {
 pub fn record_at<'a>(frozen: &'a [u8], log: &'a [u8], source: u32) -> &'a [u8]
     ensures { λ r. ⌜ now r ≡ recordAt (now (frozen .entry)) (now (log .entry)) source ⌝ }
 {
-    if source < 1000000 {
+    if source < FIRST_OF_LOG {
         record::within(frozen, source as usize)
     } else {
-        record::within(log, (source - 1000000) as usize)
+        record::within(log, (source - FIRST_OF_LOG) as usize)
     }
 }
 
@@ -49,14 +60,14 @@ pub fn sources_of(file: &[u8]) -> Sources
 {
     let mut found = Sources {
         count: 0,
-        at: [0u32; 480],
+        at: [0u32; MOST_RECORDS],
     };
     let mut i: usize = 0;
-    while i < 480 {
-        if slices::byte_at(file, i * 133 + 132) != 10 {
+    while i < MOST_RECORDS {
+        if slices::byte_at(file, i * LINE_WIDTH + RECORD_WIDTH) != 10 {
             return found;
         }
-        found.at[i] = (i * 133) as u32;
+        found.at[i] = (i * LINE_WIDTH) as u32;
         i += 1;
         found.count = i;
     }
@@ -110,7 +121,7 @@ fn walk<'a>(frozen: &'a [u8], log: &'a [u8], sources: Sources, from: usize, to: 
     ensures { λ r. ⌜ r ≡ walkFrom nothing 1 (recordsIn (now (frozen .entry)) (now (log .entry)) sources from to) ⌝ }
 {
     let count = sources.count;
-    let end = least(to, least(count, 480));
+    let end = least(to, least(count, MOST_RECORDS));
     let mut primary = &frozen[0..0];
     let mut before = &frozen[0..0];
     let mut i = from;
@@ -143,7 +154,7 @@ pub fn finish<'a>(
     ensures { λ r. ⌜ r ≡ finished (recordsIn (now (frozen .entry)) (now (log .entry)) sources from to) ⌝ }
 {
     let count = sources.count;
-    let end = least(to, least(count, 480));
+    let end = least(to, least(count, MOST_RECORDS));
     if end <= from {
         return Verdict::Accepted;
     }
@@ -176,22 +187,22 @@ fn judge_tail(file: &[u8], n: usize) -> Verdict
     requires { ⌜ n ≤ 480 ⌝ }
     ensures { λ r. ⌜ r ≡ tailStage (length (now (file .entry))) n ⌝ }
 {
-    let whole = n * 133;
+    let whole = n * LINE_WIDTH;
     if file.len() <= whole {
         return Verdict::Accepted;
     }
     let tail = file.len() - whole;
-    if tail < 133 {
+    if tail < LINE_WIDTH {
         return Verdict::Refused(Refusal::cut_short(n + 1, tail + 1));
     }
-    Verdict::Refused(Refusal::cut_short(n + 1, 133))
+    Verdict::Refused(Refusal::cut_short(n + 1, LINE_WIDTH))
 }
 
 // Judges a file: 2 for its size; then record by record 1, 3, 4, 5, 6, 7, 8; a continuation that is missing past the last record.
 pub fn check(file: &[u8]) -> Verdict
     ensures { λ r. ⌜ r ≡ fileVerdict (now (file .entry)) ⌝ }
 {
-    if 63840 < file.len() {
+    if LONGEST_FILE < file.len() {
         return Verdict::Refused(Refusal::too_many_records());
     }
     let sources = sources_of(file);

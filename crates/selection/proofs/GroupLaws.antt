@@ -15,7 +15,7 @@ use Rattle.corrections.specs.Text.{Change}
 use Rattle.corrections.proofs.TextLaws.{entriesFrom, entriesIn, groups}
 use Rattle.corrections.proofs.Within.{legal-read}
 use Rattle.corrections.proofs.Spelling.{said-legal}
-use Rattle.applying.specs.Run.{leading, byCorrection}
+use Rattle.applying.specs.Run.{leadingLines, byCorrection}
 
 -- ---- groups of lines
 
@@ -127,14 +127,14 @@ groups-length begun at [] = refl
 groups-length begun at (c ∷ cs) = ap suc (groups-length (begun + 1) _ cs)
 
 -- no line of the corrections behind another one is its own
-leading-none : (n begun at : ℕ) (cs : List (List Change)) → n ≤ begun → leading n (entriesIn begun at cs) ≡ 0
-unfolding leading entriesIn entriesFrom
+leading-none : (n begun at : ℕ) (cs : List (List Change)) → n ≤ begun → leadingLines n (entriesIn begun at cs) ≡ 0
+unfolding leadingLines entriesIn entriesFrom
 leading-none n begun at [] h = refl
 leading-none n begun at ([] ∷ cs) h = leading-none n (begun + 1) _ cs (omega arith)
 leading-none n begun at ((x ∷ xs) ∷ cs) h = rw (ne-eqb (begun + 1) n (λ (z : begun + 1 ≡ n). omega arith))
 
-leading-own : (n : ℕ) (es rest : List Entry) → AllOf n es → leading n rest ≡ 0 → leading n (es ++ rest) ≡ length es
-unfolding leading
+leading-own : (n : ℕ) (es rest : List Entry) → AllOf n es → leadingLines n rest ≡ 0 → leadingLines n (es ++ rest) ≡ length es
+unfolding leadingLines
 leading-own n [] rest a z = z
 leading-own n (e ∷ es) rest a z = rw (eq-eqb (e .correction) n (a .0), leading-own n es rest (a .1) z)
 
@@ -146,11 +146,11 @@ by-groups begun at (c ∷ cs) =
     let w : ℕ = length (heading (begun + 1)) in
     let own : List Entry = entriesFrom (begun + 1) (at + w) c in
     let rest : List Entry = entriesIn (begun + 1) (at + w + length c * 135) cs in
-    let m : leading (begun + 1) (own ++ rest) ≡ length own =
+    let m : leadingLines (begun + 1) (own ++ rest) ≡ length own =
     leading-own (begun + 1) own rest (from-own (begun + 1) (at + w) c) (leading-none (begun + 1) (begun + 1) (at + w + length c * 135) cs (omega arith)) in
     ap₂ (λ (x : List Entry) (xs : List (List Entry)). x ∷ xs)
-    (take-at own rest (leading (begun + 1) (own ++ rest)) (sym m))
-    (ap (byCorrection (begun + 1 + 1) (length cs)) (drop-at own rest (leading (begun + 1) (own ++ rest)) (sym m)) ∙ by-groups (begun + 1) (at + w + length c * 135) cs)
+    (take-at own rest (leadingLines (begun + 1) (own ++ rest)) (sym m))
+    (ap (byCorrection (begun + 1 + 1) (length cs)) (drop-at own rest (leadingLines (begun + 1) (own ++ rest)) (sym m)) ∙ by-groups (begun + 1) (at + w + length c * 135) cs)
 
 -- ---- what is read of a log
 

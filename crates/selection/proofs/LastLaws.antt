@@ -16,21 +16,21 @@ use Rattle.routes.specs.Places.{keyOf}
 use Rattle.history.specs.Apply.{take-out, put-in, routeOf, Touches, touches?}
 use Rattle.history.specs.Sets.{numbered, lastOn}
 use Rattle.corrections.specs.Reading.{Entry}
-use Rattle.applying.specs.Apply.{recordOf}
+use Rattle.applying.specs.Apply.{recordOfLine}
 use Rattle.applying.specs.Procedures.{procedures, operation, operations}
 use Rattle.selection.specs.Reliance.{lastBefore}
 use Rattle.selection.proofs.GroupLaws.{AllOf, Grouped, flat, flat-next, grouped-at, Stands}
 
 module _ (f l : List ℕ) where
   abbrev pub routeIn : Entry → List ℕ
-  routeIn e = keyOf (recordOf f l e)
+  routeIn e = keyOf (recordOfLine f l e)
 
   -- a line's route is that of its record
   pub route-of : (e : Entry) → routeOf procedures (operation f l e) ≡ routeIn e
   unfolding operation routeOf
   route-of e = by (eqb (e .letter) (code "D"))
     where
-      by : (b : Bool) → routeOf procedures (cond b (take-out (recordOf f l e)) (put-in (recordOf f l e))) ≡ routeIn e
+      by : (b : Bool) → routeOf procedures (cond b (take-out (recordOfLine f l e)) (put-in (recordOfLine f l e))) ≡ routeIn e
       by true = refl
       by false = refl
 

@@ -14,7 +14,7 @@ use Rattle.corrections.proofs.ReadBack.{corrections-made}
 use Rattle.routes.specs.Sources.{recordWithin}
 use Rattle.routes.proofs.SourceLaws.{in-log}
 use Rattle.history.specs.Apply.{take-out, put-in}
-use Rattle.applying.specs.Apply.{recordOf}
+use Rattle.applying.specs.Apply.{recordOfLine}
 use Rattle.applying.specs.Run.{byCorrection}
 use Rattle.selection.proofs.GroupLaws.{by-groups}
 use Rattle.applying.specs.Procedures.{operation, operations, opOf, logOf}
@@ -33,13 +33,13 @@ record-there front rest r letter n =
     (ap (take 132) (drop-append-add front back 2) ∙ take-at r (10 ∷ rest) 132 n)
 
 module _ (frozen log : List ℕ) where
-  line-there : (e : Entry) → recordOf frozen log e ≡ recordWithin log (e .at)
+  line-there : (e : Entry) → recordOfLine frozen log e ≡ recordWithin log (e .at)
   line-there e =
       let z : 1000000 + e .at - 1000000 ≡ e .at = omega arith in
       sym (in-log frozen log (1000000 + e .at) (omega arith)) ∙ ap (recordWithin log) z
 
   bytes-there : (front rest r : List ℕ) (letter at n : ℕ) → length r ≡ 132 → at ≡ length front
-      → log ≡ front ++ (letter ∷ 9 ∷ ((r ++ 10 ∷ []) ++ rest)) → recordOf frozen log (entry letter (at + 2) n) ≡ r
+      → log ≡ front ++ (letter ∷ 9 ∷ ((r ++ 10 ∷ []) ++ rest)) → recordOfLine frozen log (entry letter (at + 2) n) ≡ r
   bytes-there front rest r letter at n w a e =
       line-there (entry letter (at + 2) n)
       ∙ ap₂ recordWithin (e ∙ ap (λ (t : List ℕ). front ++ letter ∷ 9 ∷ t) (append-assoc r (10 ∷ []) rest)) (ap (λ (i : ℕ). i + 2) a)

@@ -16,7 +16,7 @@ use Rattle.slices.proofs.WriteLaws.{stored-front}
 use Rattle.routes.specs.Places.{keyOf}
 use Rattle.routes.specs.Sources.{recordAt}
 use Rattle.corrections.specs.declared.Index.{Index}
-use Rattle.applying.specs.Apply.{entryAt, entriesFrom, recordOf}
+use Rattle.applying.specs.Apply.{entryAt, entriesFrom, recordOfLine}
 use Rattle.selection.specs.Reliance.{lastBefore, reliedBy, reliances}
 
 -- ---- the lines before line k, of which those from j on are left
@@ -25,7 +25,7 @@ module _ (f l : List ℕ) (index : Index) (k : ℕ) where
   -- what is relied on where so much was found before line j
   unfoldable pub reliedFrom : (found j : ℕ) → ℕ
   reliedFrom found j =
-      lastBefore f l (getD (index .correction) k 0) (keyOf (recordOf f l (entryAt index k))) found (entriesFrom index j (k - j))
+      lastBefore f l (getD (index .correction) k 0) (keyOf (recordOfLine f l (entryAt index k))) found (entriesFrom index j (k - j))
 
   pub relied-start : reliedBy f l index k ≡ reliedFrom 0 0
   unfolding reliedBy reliedFrom

@@ -12,7 +12,7 @@ use Rattle.slices.specs.Order.{equal}
 use Rattle.routes.specs.Places.{keyOf}
 use Rattle.corrections.specs.Reading.{Entry}
 use Rattle.corrections.specs.declared.Index.{Index}
-use Rattle.applying.specs.Apply.{entryAt, entriesFrom, recordOf}
+use Rattle.applying.specs.Apply.{entryAt, entriesFrom, recordOfLine}
 
 -- ---- one line
 
@@ -21,11 +21,11 @@ module _ (frozen log : List ℕ) where
   unfoldable pub lastBefore : (n : ℕ) (key : List ℕ) (found : ℕ) → List Entry → ℕ
   lastBefore n key found [] = found
   lastBefore n key found (e ∷ es) =
-      lastBefore n key (cond (ltb (e .correction) n && equal key (keyOf (recordOf frozen log e))) (e .correction) found) es
+      lastBefore n key (cond (ltb (e .correction) n && equal key (keyOf (recordOfLine frozen log e))) (e .correction) found) es
 
   -- the last earlier correction on the route of line k; 0 where there is none
   unfoldable pub reliedBy : Index → ℕ → ℕ
-  reliedBy index k = lastBefore (entryAt index k .correction) (keyOf (recordOf frozen log (entryAt index k))) 0 (entriesFrom index 0 k)
+  reliedBy index k = lastBefore (entryAt index k .correction) (keyOf (recordOfLine frozen log (entryAt index k))) 0 (entriesFrom index 0 k)
 
   -- the same of n lines from k on
   unfoldable pub reliances : Index → (k n : ℕ) → List ℕ

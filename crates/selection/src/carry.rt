@@ -23,11 +23,14 @@ ghost use Rattle.selection.specs.Pick.{
 ghost use Rattle.corrections.specs.Reading.{said};
 use crate::Picked;
 use crate::opening::within;
+use crate::relied::MARKS;
 use crate::relied::reliances;
 use crate::relied::taken;
 use applying::is_marked;
 use applying::run;
 use corrections::Index;
+use corrections::MOST_CORRECTIONS;
+use refusals::MOST_RECORDS;
 use refusals::Refusal;
 use refusals::Verdict;
 use routes::Sources;
@@ -36,7 +39,7 @@ use routes::sources_of;
 // Some numbers in rising order, with zeros past them.
 pub(crate) struct Members {
     pub count: usize,
-    pub at: [u32; 200],
+    pub at: [u32; MOST_CORRECTIONS],
 }
 
 // The pick that is refused: nothing but zeros beside the refusal.
@@ -46,10 +49,10 @@ pub(crate) fn refused_pick(refusal: Refusal) -> Picked
     Picked {
         verdict: Verdict::Refused(refusal),
         count: 0,
-        taken: [0u32; 200],
+        taken: [0u32; MOST_CORRECTIONS],
         records: Sources {
             count: 0,
-            at: [0u32; 480],
+            at: [0u32; MOST_RECORDS],
         },
     }
 }
@@ -76,7 +79,7 @@ fn members_of(marks: &[u8], total: usize) -> Members
 {
     let mut found = Members {
         count: 0,
-        at: [0u32; 200],
+        at: [0u32; MOST_CORRECTIONS],
     };
     let mut n = 0;
     while n < total {
@@ -93,7 +96,7 @@ pub(crate) fn whole<'a>(frozen: &'a [u8], log: &'a [u8], index: Index) -> Verdic
     requires { ⌜ Reads (now log) index ⌝ }
     ensures { λ r. ⌜ r ≡ outcomeVerdict (carried (now (frozen .entry)) (now (log .entry)) everything (index .corrections) (entriesFrom index 0 (index .count))) ⌝ }
 {
-    let marks = [1u8; 201];
+    let marks = [1u8; MARKS];
     let state = sources_of(frozen);
     let all = run(frozen, log, index, &marks, state);
     all.verdict

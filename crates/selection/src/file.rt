@@ -5,6 +5,8 @@ ghost use Prim.Native.Nat.{_≤_};
 ghost use lib.Seq.{sets};
 ghost use Rattle.routes.specs.Sources.{recordAt, inUse};
 ghost use Rattle.selection.specs.Pick.{stored};
+use routes::LINE_WIDTH;
+use routes::RECORD_WIDTH;
 use routes::Sources;
 use routes::record_at;
 
@@ -18,9 +20,9 @@ pub(crate) fn write_records<'a>(frozen: &'a [u8], log: &'a [u8], records: Source
     while i < count {
         let source = records.at[i];
         let rec = record_at(frozen, log, source);
-        let at = i * 133;
-        slices::copy(rec, 0, &mut *out, at, 132);
-        slices::put_after(&mut *out, at, 132, 10);
+        let at = i * LINE_WIDTH;
+        slices::copy(rec, 0, &mut *out, at, RECORD_WIDTH);
+        slices::put_after(&mut *out, at, RECORD_WIDTH, 10);
         i += 1;
     }
 }

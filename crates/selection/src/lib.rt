@@ -16,10 +16,13 @@ ghost use Rattle.selection.specs.Pick.{logVerdict, pickOf, filePick, new
 use carry::pick_from;
 use carry::refused_pick;
 use carry::whole;
+use corrections::MOST_CORRECTIONS;
 use file::write_records;
 use opening::opening;
+use refusals::MOST_RECORDS;
 use refusals::Refusal;
 use refusals::Verdict;
+use routes::LONGEST_FILE;
 use routes::Sources;
 use routes::record_at;
 
@@ -28,7 +31,7 @@ use routes::record_at;
 pub struct Picked {
     pub verdict: Verdict,
     pub count: usize,
-    pub taken: [u32; 200],
+    pub taken: [u32; MOST_CORRECTIONS],
     pub records: Sources,
 }
 
@@ -63,7 +66,7 @@ pub fn new_file<'a>(frozen: &'a [u8], log: &'a [u8], wanted: &[u32], out: &mut [
     ensures { λ r. ⌜ (r ≡ pickedAs (filePick (now (frozen .entry)) (now (log .entry)) (length (now (out .entry))) (now (wanted .entry)))) × (now (out .exit) ≡ padded (length (now (out .entry))) (newBytes (now (frozen .entry)) (now (log .entry)) (filePick (now (frozen .entry)) (now (log .entry)) (length (now (out .entry))) (now (wanted .entry))))) ⌝ }
 {
     slices::clear(&mut *out);
-    if out.len() < 63840 {
+    if out.len() < LONGEST_FILE {
         return refused_pick(Refusal::buffer_too_short());
     }
     let picked = pick(frozen, log, wanted);
@@ -85,7 +88,7 @@ pub fn line_of<'a>(frozen: &'a [u8], log: &'a [u8], picked: Picked, n: usize) ->
     if count < n {
         return &frozen[0..0];
     }
-    if 480 < n {
+    if MOST_RECORDS < n {
         return &frozen[0..0];
     }
     let i = n - 1;

@@ -4,6 +4,7 @@ ghost use mathlib.Core.Path.{_≡_};
 ghost use Rattle.corrections.specs.Reading.{indexOf};
 ghost use Rattle.selection.specs.Pick.{opened, wantedStage};
 use corrections::Index;
+use corrections::LONGEST_LOG;
 use corrections::index_of;
 use corrections::refused_by;
 use refusals::Refusal;
@@ -13,7 +14,7 @@ use refusals::Verdict;
 pub(crate) fn opening(frozen: &[u8], log: &[u8]) -> Index
     ensures { λ r. ⌜ r ≡ indexOf (opened (now (frozen .entry)) (now (log .entry))) ⌝ }
 {
-    if 60000 < log.len() {
+    if LONGEST_LOG < log.len() {
         return refused_by(Refusal::log_too_long());
     }
     let verdict = routes::check(frozen);

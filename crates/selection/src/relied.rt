@@ -11,6 +11,12 @@ ghost use Rattle.applying.specs.Apply.{Within};
 ghost use Rattle.selection.specs.Reliance.{reliedBy, reliances, namedBy, Marked, Taken};
 use applying::same_route;
 use corrections::Index;
+use corrections::MOST_CHANGES;
+use corrections::MOST_CORRECTIONS;
+use routes::FIRST_OF_LOG;
+
+// How many bytes marks have: one for each correction, and one for 0, which is none.
+pub(crate) const MARKS: usize = MOST_CORRECTIONS + 1;
 
 // The later of what was found and the correction of one more line, where that line counts.
 fn later(found: u32, of: u32, counts: bool) -> u32
@@ -31,7 +37,7 @@ fn relied_on<'a>(frozen: &'a [u8], log: &'a [u8], index: Index, k: usize) -> u32
     while j < k {
         let other = index.at[j];
         let of = index.correction[j];
-        let same = same_route(frozen, log, 1000000 + at, 1000000 + other);
+        let same = same_route(frozen, log, FIRST_OF_LOG + at, FIRST_OF_LOG + other);
         found = later(found, of, (of < n) & same);
         j += 1;
     }
@@ -39,12 +45,12 @@ fn relied_on<'a>(frozen: &'a [u8], log: &'a [u8], index: Index, k: usize) -> u32
 }
 
 // What each line relies on, in the order of the index; zeros past its lines.
-pub(crate) fn reliances<'a>(frozen: &'a [u8], log: &'a [u8], index: Index) -> [u32; 444]
+pub(crate) fn reliances<'a>(frozen: &'a [u8], log: &'a [u8], index: Index) -> [u32; MOST_CHANGES]
     requires { ⌜ (index .count ≤ 444) × Within index ⌝ }
     ensures { λ r. ⌜ r ≡ reliances (now (frozen .entry)) (now (log .entry)) index 0 (index .count) ++ replicate (444 - index .count) 0 ⌝ }
 {
     let count = index.count;
-    let mut relied = [0u32; 444];
+    let mut relied = [0u32; MOST_CHANGES];
     let mut k = 0;
     while k < count {
         let n = relied_on(frozen, log, index, k);
@@ -95,10 +101,10 @@ fn mark<'a>(of: &'a [u32], relied: &'a [u32], marks: &mut [u8], c: usize)
 }
 
 // The marks of the wanted corrections and of all that they rely on, one byte for each number from 0 on.
-pub(crate) fn taken<'a>(of: &'a [u32], relied: &'a [u32], wanted: &[u32]) -> [u8; 201]
+pub(crate) fn taken<'a>(of: &'a [u32], relied: &'a [u32], wanted: &[u32]) -> [u8; MARKS]
     ensures { λ r. ⌜ Taken (now (of .entry)) (now (relied .entry)) (now (wanted .entry)) r (length (now (wanted .entry))) ⌝ }
 {
-    let mut marks = [0u8; 201];
+    let mut marks = [0u8; MARKS];
     let mut i = 0;
     while i < wanted.len() {
         let c = wanted[i] as usize;

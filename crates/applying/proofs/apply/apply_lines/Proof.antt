@@ -10,10 +10,10 @@ use Rattle.applying.proofs.apply.apply_lines.Statement.{statement}
 use Rattle.applying.proofs.apply.apply_lines.Tie as tie
 
 abbrev Inv-loop : tie.InvT-loop
-Inv-loop frozen log from to index now₀ k₀ now k = (now .count ≤ 480) × (linesApplied frozen log (entriesFrom index from (to - from)) (inUse now₀) ≡ linesApplied frozen log (entriesFrom index k (to - k)) (inUse now))
+Inv-loop frozen log from to index standing₀ k₀ standing k = (standing .count ≤ 480) × (linesApplied frozen log (entriesFrom index from (to - from)) (inUse standing₀) ≡ linesApplied frozen log (entriesFrom index k (to - k)) (inUse standing))
 
 abbrev μ-loop : tie.MeasureT-loop
-μ-loop frozen log from to index now₀ k₀ now k = to - k
+μ-loop frozen log from to index standing₀ k₀ standing k = to - k
 
 loop-holds : tie.Need-loop-holds Inv-loop μ-loop
 loop-holds c = (c .before .before .pre .0, refl)

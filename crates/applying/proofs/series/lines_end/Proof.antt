@@ -1,5 +1,5 @@
 -- The invariant: what is left of the lines gives their end. Assumes nothing.
-use Rattle.applying.specs.Run.{leading}
+use Rattle.applying.specs.Run.{leadingLines}
 use Rattle.applying.specs.Apply.{entriesFrom}
 use Prim.Native.Nat.{_+_, _-_, _≤_}
 use mathlib.Core.Path.{_≡_, refl}
@@ -10,7 +10,7 @@ use Rattle.applying.proofs.series.lines_end.Statement.{statement}
 use Rattle.applying.proofs.series.lines_end.Tie as tie
 
 abbrev Inv-loop : tie.InvT-loop
-Inv-loop from n index count k₀ k = (k ≤ count) × (count ≡ index .count) × (from + leading n (entriesFrom index from (index .count - from)) ≡ k + leading n (entriesFrom index k (index .count - k)))
+Inv-loop from n index count k₀ k = (k ≤ count) × (count ≡ index .count) × (from + leadingLines n (entriesFrom index from (index .count - from)) ≡ k + leadingLines n (entriesFrom index k (index .count - k)))
 
 abbrev μ-loop : tie.MeasureT-loop
 μ-loop from n index count k₀ k = count - k

@@ -11,10 +11,10 @@ use Rattle.applying.proofs.series.run_marked.Statement.{statement}
 use Rattle.applying.proofs.series.run_marked.Tie as tie
 
 abbrev Inv-loop : tie.InvT-loop
-Inv-loop frozen log known index marks state total now₀ k₀ n₀ now k n = (now .count ≤ 480) × (k ≤ index .count) × (total ≡ index .corrections) × (ran frozen log (marked marks) 1 (byCorrection 1 (index .corrections) (entriesFrom index 0 (index .count))) (inUse state) ≡ ran frozen log (marked marks) (n + 1) (left index n total k) (inUse now))
+Inv-loop frozen log known index marks state total standing₀ k₀ n₀ standing k n = (standing .count ≤ 480) × (k ≤ index .count) × (total ≡ index .corrections) × (ran frozen log (marked marks) 1 (byCorrection 1 (index .corrections) (entriesFrom index 0 (index .count))) (inUse state) ≡ ran frozen log (marked marks) (n + 1) (left index n total k) (inUse standing))
 
 abbrev μ-loop : tie.MeasureT-loop
-μ-loop frozen log known index marks state total now₀ k₀ n₀ now k n = total - n
+μ-loop frozen log known index marks state total standing₀ k₀ n₀ standing k n = total - n
 
 loop-holds : tie.Need-loop-holds Inv-loop μ-loop
 loop-holds c = let pre = c .before .before .before .before .pre in (pre .0, omega arith, refl, run-starts _ _ _ _ _ _)

@@ -6,8 +6,8 @@ use mathlib.Core.Path.{_≡_, refl}
 use Rattle.applying.proofs.BoundLaws.{bound-state, bound-lines, bound-past, bound-next, bound-holds}
 use borrow.Author.Needs.{needs}
 use native.Mathlib.Omega.{arith}
-use Rattle.applying.proofs.series.bounds.Statement.{statement}
-use Rattle.applying.proofs.series.bounds.Tie as tie
+use Rattle.applying.proofs.bounds.bounds.Statement.{statement}
+use Rattle.applying.proofs.bounds.bounds.Tie as tie
 
 abbrev Inv-loop : tie.InvT-loop
 Inv-loop index k₀ k = (k ≤ 444) × (length (index .at) ≡ 444) × (allWithin (index .at) ≡ allWithin (drop k (index .at)))
@@ -35,6 +35,9 @@ mul-at c = search needs
 
 element-copy-out-at : tie.Need-element-copy-out-at Inv-loop μ-loop
 element-copy-out-at c = search needs
+
+cast-if3 : tie.Need-cast-if3 Inv-loop μ-loop
+cast-if3 c = search needs
 
 log-too-long-requires-2 : tie.Need-log-too-long-requires-2 Inv-loop μ-loop
 log-too-long-requires-2 c κs = search needs
@@ -77,6 +80,7 @@ bounds-spec =
     loop-holds
     mul-at
     element-copy-out-at
+    cast-if3
     log-too-long-requires-2
     returns-3
     add-k

@@ -2,8 +2,8 @@
 use mathlib.Core.Path.{refl}
 use Rattle.routes.specs.Sources.{sourcesFor}
 use Rattle.applying.specs.Bounds.{ranAs}
-use Rattle.applying.proofs.series.refused_run.Statement.{statement}
-use Rattle.applying.proofs.series.refused_run.Tie as tie
+use Rattle.applying.proofs.refused_run.Statement.{statement}
+use Rattle.applying.proofs.refused_run.Tie as tie
 
 returns : tie.Need-returns
 unfolding ranAs sourcesFor

@@ -6,8 +6,8 @@ use Rattle.slices.proofs.WriteLaws.{cleared, cleared-next, cleared-end}
 use Rattle.applying.proofs.BoundLaws.{all-cleared}
 use borrow.Author.Needs.{needs}
 use native.Mathlib.Omega.{arith}
-use Rattle.applying.proofs.series.cleared.Statement.{statement}
-use Rattle.applying.proofs.series.cleared.Tie as tie
+use Rattle.applying.proofs.state.cleared.Statement.{statement}
+use Rattle.applying.proofs.state.cleared.Tie as tie
 
 abbrev Inv-loop : tie.InvT-loop
 Inv-loop next₀ k₀ next k = (next₀ .count ≤ 480) × (length (next₀ .at) ≡ 480) × (length (next .at) ≡ 480) × (next .count ≡ next₀ .count) × (cleared (next₀ .at) (next₀ .count) ≡ cleared (next .at) k)

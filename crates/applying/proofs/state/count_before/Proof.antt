@@ -4,8 +4,8 @@ use mathlib.Core.Path.{_≡_, refl}
 use Rattle.applying.proofs.StateLaws.{Searched, search-starts, search-finds, search-goes-on, search-ends}
 use borrow.Author.Needs.{needs}
 use native.Mathlib.Omega.{arith}
-use Rattle.applying.proofs.state.before.Statement.{statement}
-use Rattle.applying.proofs.state.before.Tie as tie
+use Rattle.applying.proofs.state.count_before.Statement.{statement}
+use Rattle.applying.proofs.state.count_before.Tie as tie
 
 abbrev Inv-loop : tie.InvT-loop
 Inv-loop frozen log rec state count i₀ i = (i ≤ state .count) × (count ≡ state .count) × Searched state frozen log rec i
@@ -51,8 +51,8 @@ returns-2 c =
     let start = c .before .before .before .before .before in
     search-ends _ (start .pre) (search needs) _ _ _ _ (c .before .loop .inv .2) (omega (arith, c .before .loop .inv .1, c .loop-test .left))
 
-pub before-spec : {M : Type 1} → statement M
-before-spec =
+pub count-before-spec : {M : Type 1} → statement M
+count-before-spec =
     tie.close
     (tie.spec
     Inv-loop
