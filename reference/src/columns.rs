@@ -1,8 +1,8 @@
 //! The worked vectors of the columns, and what this program says of them: the
 //! kind of each record, and its leftmost field that holds nothing legal.
 //!
-//! The records are those that the proof of the columns computes, as its text has
-//! them: `NAME`, `[]` or `codes "TEXT"`, with `at COLUMN is "TEXT"` and
+//! The records are those that the proof of the columns computes, as its text and
+//! that of its sample records have them: `NAME`, `[]` or `codes "TEXT"`, with `at COLUMN is "TEXT"` and
 //! `at COLUMN holds BYTE` behind it, `take N` in front, `++ codes "TEXT"` at the
 //! end. The answer that stands there behind `gives` decides nothing here; the
 //! tests hold it to the judgement.
@@ -12,6 +12,7 @@ use std::collections::HashMap;
 use crate::judge::{first_bad, is_continuation};
 use crate::Stored;
 
+const SAMPLES: &str = include_str!("../../crates/columns/specs/Samples.antt");
 const PROOF: &str = include_str!("../../crates/columns/proofs/Vectors.antt");
 
 /// A record, and the answer that the proof gives it.
@@ -40,7 +41,7 @@ pub fn all() -> Vec<Vector> {
     let mut named = HashMap::new();
     let mut vectors = Vec::new();
     let mut name = "";
-    for line in PROOF.lines() {
+    for line in SAMPLES.lines().chain(PROOF.lines()) {
         if let Some((text, proved)) = line.strip_suffix(" ∷").and_then(|line| line.rsplit_once(" gives ")) {
             let record = record(&words(text), &named).unwrap_or_else(|| panic!("no record: {text}"));
             let proved = proved.parse().unwrap_or_else(|_| panic!("no answer: {proved}"));

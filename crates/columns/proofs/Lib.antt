@@ -9,4 +9,4 @@ pub mod Tiled
 pub mod Printable
 pub mod WordLaws
 mod Turns
-pub mod Vectors
+mod Vectors

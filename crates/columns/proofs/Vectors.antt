@@ -1,32 +1,27 @@
--- Worked vectors, by evaluation: a legal primary record and a legal continuation, changed in some columns, and the answer to each. Every
+-- Worked vectors, by evaluation: the sample records, changed in some columns, and the answer to each. Every
 -- row of paper 01's table has at least one good content and one bad one.
 -- Assumes nothing.
 use mathlib.Core.Path.{_≡_, refl}
 use mathlib.Core.Bool.{Bool, true, _&&_}
 use mathlib.Core.List.{List, [], _∷_, _++_}
 use Prim.Native.Nat.{ℕ, _-_}
-use Prim.Native.String.{String}
 use lib.Dec.{eqb}
 use lib.ListN.{take, set}
-use lib.Seq.{sets}
 use Rattle.slices.specs.Part.{part}
 use Rattle.columns.specs.ByteSets.{fits}
 use Rattle.columns.specs.Patterns.{fitsAll, codes}
 use Rattle.columns.specs.Rows.{stands, matches, firstOf}
 use Rattle.columns.specs.Layout.{primary, continuation}
 use Rattle.columns.specs.Kinds.{kindOf, layoutOf, firstBadField}
+use Rattle.columns.specs.Samples.{_at_is_, approach, notes}
 
 record Vector : Type 0 where
   content : List ℕ
   answer : ℕ
 
-infixl 80 _at_is_ _at_holds_
+infixl 80 _at_holds_
 infix 75 _gives_
--- a record with other content from a column on
-unfoldable pub _at_is_ : List ℕ → ℕ → String → List ℕ
-rec at c is s = sets rec (c - 1) (codes s)
-
--- .. and with one byte that no text can show
+-- a record with one byte that no text can show
 _at_holds_ : List ℕ → ℕ → ℕ → List ℕ
 rec at c holds b = set rec (c - 1) b
 
@@ -36,12 +31,6 @@ rec gives n = record { content = rec; answer = n }
 right : List Vector → Bool
 right [] = true
 right (v ∷ vs) = eqb (firstBadField (v .content)) (v .answer) && right vs
-
-unfoldable pub approach : List ℕ
-approach = codes "SUSAP KSEAK1FI16R  I      010FAFFYK1PC0E  F    CF ISEAK1      3410006016100040PI  + 02000     18000210-300                 123452013"
-
-unfoldable pub notes : List ℕ
-notes = approach at 39 is "2" at 40 is " "
 
 -- columns 1 to 38
 ofFront : List Vector

@@ -1,4 +1,4 @@
--- The table of columns as data, what its rows mean when they are run, and what the paper says in words.
+-- The table of columns as data, what its rows mean when they are run, what the paper says in words, and sample records.
 pub mod ByteSets
 pub mod Patterns
 pub mod Terminators
@@ -7,3 +7,4 @@ pub mod Layout
 pub mod Kinds
 pub mod Table
 pub mod Words
+pub mod Samples

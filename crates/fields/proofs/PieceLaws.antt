@@ -10,16 +10,16 @@ use lib.Seq.{sets, take-at, drop-at}
 use Rattle.slices.specs.Part.{part}
 use Rattle.slices.proofs.PartLaws.{part-append, part-take}
 use Rattle.fields.proofs.PutLaws.{length-putAll}
-use Rattle.fields.specs.Pieces.{Piece, padded, put, putAll, blanks, Placed, Holds}
+use Rattle.fields.specs.Pieces.{Piece, withBlanks, put, putAll, blanks, Placed, Holds}
 
 -- the pieces' bytes, each with blanks up to its width
 unfoldable joined : List Piece → List ℕ
 joined [] = []
-joined (p ∷ ps) = padded (p .width) (p .bytes) ++ joined ps
+joined (p ∷ ps) = withBlanks (p .width) (p .bytes) ++ joined ps
 
-pub length-padded : (w : ℕ) (bs : List ℕ) → length bs ≤ w → length (padded w bs) ≡ w
-unfolding padded
-length-padded w bs h = length-append bs (replicate (w - length bs) 32) ∙ rw length-replicate (omega arith)
+pub length-with-blanks : (w : ℕ) (bs : List ℕ) → length bs ≤ w → length (withBlanks w bs) ≡ w
+unfolding withBlanks
+length-with-blanks w bs h = length-append bs (replicate (w - length bs) 32) ∙ rw length-replicate (omega arith)
 
 -- ---- putting over blanks
 
@@ -31,8 +31,8 @@ replicate-append : (m n : ℕ) → replicate {A = ℕ} (m + n) 32 ≡ replicate 
 replicate-append zero n = let e : 0 + n ≡ n = omega arith in rw e
 replicate-append (suc m) n = let e : suc m + n ≡ suc (m + n) = omega arith in rw e (ap (λ (t : List ℕ). 32 ∷ t) (replicate-append m n))
 
-put-first : (bs : List ℕ) (w m : ℕ) → length bs ≤ w → sets (replicate (w + m) 32) 0 bs ≡ padded w bs ++ replicate m 32
-unfolding padded
+put-first : (bs : List ℕ) (w m : ℕ) → length bs ≤ w → sets (replicate (w + m) 32) 0 bs ≡ withBlanks w bs ++ replicate m 32
+unfolding withBlanks
 put-first [] w m h = let e : w - 0 ≡ w = omega arith in rw e (replicate-append w m)
 put-first (b ∷ bs) zero m h = absurd (omega arith)
 put-first (b ∷ bs) (suc w) m h =
@@ -40,7 +40,7 @@ put-first (b ∷ bs) (suc w) m h =
     let f : suc w - suc (length bs) ≡ w - length bs = omega arith in
     rw (e, f) (sets-cons b (replicate (w + m) 32) 0 bs ∙ ap (λ (t : List ℕ). b ∷ t) (put-first bs w m (omega arith)))
 
-put-over : (lead bs : List ℕ) (w m : ℕ) → length bs ≤ w → sets (lead ++ replicate (w + m) 32) (length lead) bs ≡ (lead ++ padded w bs) ++ replicate m 32
+put-over : (lead bs : List ℕ) (w m : ℕ) → length bs ≤ w → sets (lead ++ replicate (w + m) 32) (length lead) bs ≡ (lead ++ withBlanks w bs) ++ replicate m 32
 put-over [] bs w m h = put-first bs w m h
 put-over (x ∷ lead) bs w m h = sets-cons x (lead ++ replicate (w + m) 32) (length lead) bs ∙ ap (λ (t : List ℕ). x ∷ t) (put-over lead bs w m h)
 
@@ -49,13 +49,13 @@ placed-end [] from end h = omega arith
 placed-end (p ∷ ps) from end h = let i : from + p .width ≤ end + 1 = placed-end ps (from + p .width) end (h .2) in omega arith
 
 -- the columns behind a lead and a piece
-behind : (lead : List ℕ) (p : Piece) → length (p .bytes) ≤ p .width → length (lead ++ padded (p .width) (p .bytes)) ≡ length lead + p .width
-behind lead p h = length-append lead (padded (p .width) (p .bytes)) ∙ ap (λ (k : ℕ). length lead + k) (length-padded (p .width) (p .bytes) h)
+behind : (lead : List ℕ) (p : Piece) → length (p .bytes) ≤ p .width → length (lead ++ withBlanks (p .width) (p .bytes)) ≡ length lead + p .width
+behind lead p h = length-append lead (withBlanks (p .width) (p .bytes)) ∙ ap (λ (k : ℕ). length lead + k) (length-with-blanks (p .width) (p .bytes) h)
 
 next : (lead : List ℕ) (p : Piece) (ps : List Piece) (end : ℕ) → length (p .bytes) ≤ p .width → Placed (length lead + 1 + p .width) ps end
-    → Placed (length (lead ++ padded (p .width) (p .bytes)) + 1) ps end
+    → Placed (length (lead ++ withBlanks (p .width) (p .bytes)) + 1) ps end
 next lead p ps end h t =
-    let e : length lead + 1 + p .width ≡ length (lead ++ padded (p .width) (p .bytes)) + 1 = omega (arith, behind lead p h) in
+    let e : length lead + 1 + p .width ≡ length (lead ++ withBlanks (p .width) (p .bytes)) + 1 = omega (arith, behind lead p h) in
     subst (λ (k : ℕ). Placed k ps end) e t
 
 put-joined : (ps : List Piece) (lead : List ℕ) (end : ℕ) → Placed (length lead + 1) ps end → putAll ps (lead ++ replicate (end - length lead) 32) ≡ lead ++ joined ps
@@ -64,11 +64,11 @@ put-joined [] lead end h = let e : end - length lead ≡ 0 = omega arith in rw e
 put-joined (p ∷ ps) lead end h =
     let c : p .column - 1 ≡ length lead = omega (arith, h .0) in
     let t = next lead p ps end (h .1) (h .2) in
-    let l : length (lead ++ padded (p .width) (p .bytes)) ≡ length lead + p .width = behind lead p (h .1) in
-    let room : length (lead ++ padded (p .width) (p .bytes)) + 1 ≤ end + 1 = placed-end ps _ end t in
-    let m : end - length lead ≡ p .width + (end - length (lead ++ padded (p .width) (p .bytes))) = omega arith in
-    rw (c, m, put-over lead (p .bytes) (p .width) (end - length (lead ++ padded (p .width) (p .bytes))) (h .1))
-    (put-joined ps (lead ++ padded (p .width) (p .bytes)) end t ∙ append-assoc lead (padded (p .width) (p .bytes)) (joined ps))
+    let l : length (lead ++ withBlanks (p .width) (p .bytes)) ≡ length lead + p .width = behind lead p (h .1) in
+    let room : length (lead ++ withBlanks (p .width) (p .bytes)) + 1 ≤ end + 1 = placed-end ps _ end t in
+    let m : end - length lead ≡ p .width + (end - length (lead ++ withBlanks (p .width) (p .bytes))) = omega arith in
+    rw (c, m, put-over lead (p .bytes) (p .width) (end - length (lead ++ withBlanks (p .width) (p .bytes))) (h .1))
+    (put-joined ps (lead ++ withBlanks (p .width) (p .bytes)) end t ∙ append-assoc lead (withBlanks (p .width) (p .bytes)) (joined ps))
 
 -- ---- what the joined pieces hold
 
@@ -81,9 +81,9 @@ joined-holds : (ps : List Piece) (lead : List ℕ) (end : ℕ) → Placed (lengt
 unfolding joined
 joined-holds [] lead end h = tt
 joined-holds (p ∷ ps) lead end h = (
-  part-mid lead (padded (p .width) (p .bytes)) (joined ps) (p .width) (p .column - 1) (omega (arith, h .0)) (length-padded (p .width) (p .bytes) (h .1)),
-  subst (λ (r : List ℕ). Holds r ps) (append-assoc lead (padded (p .width) (p .bytes)) (joined ps))
-      (joined-holds ps (lead ++ padded (p .width) (p .bytes)) end (next lead p ps end (h .1) (h .2))),
+  part-mid lead (withBlanks (p .width) (p .bytes)) (joined ps) (p .width) (p .column - 1) (omega (arith, h .0)) (length-with-blanks (p .width) (p .bytes) (h .1)),
+  subst (λ (r : List ℕ). Holds r ps) (append-assoc lead (withBlanks (p .width) (p .bytes)) (joined ps))
+      (joined-holds ps (lead ++ withBlanks (p .width) (p .bytes)) end (next lead p ps end (h .1) (h .2))),
 )
 
 -- and a record that holds them
@@ -94,7 +94,7 @@ holds-joined rec (p ∷ ps) from end h t e =
     let room : from + p .width ≤ end + 1 = placed-end ps (from + p .width) end (t .2) in
     let m : end + 1 - from ≡ p .width + (end + 1 - (from + p .width)) = omega arith in
     let i : from + p .width - 1 ≡ from - 1 + p .width = omega arith in
-    let f : padded (p .width) (p .bytes) ≡ part (p .width) (from - 1) rec = sym (e .0) ∙ ap (λ (c : ℕ). part (p .width) (c - 1) rec) (t .0) in
+    let f : withBlanks (p .width) (p .bytes) ≡ part (p .width) (from - 1) rec = sym (e .0) ∙ ap (λ (c : ℕ). part (p .width) (c - 1) rec) (t .0) in
     ap (λ (x : List ℕ). x ++ joined ps) f
     ∙ ap (λ (x : List ℕ). part (p .width) (from - 1) rec ++ x) (holds-joined rec ps (from + p .width) end (omega arith) (t .2) (e .1) ∙ ap (λ (k : ℕ). part (end + 1 - (from + p .width)) k rec) i)
     ∙ sym (ap (λ (k : ℕ). part k (from - 1) rec) m ∙ part-append (p .width) (end + 1 - (from + p .width)) (from - 1) rec)

@@ -7,7 +7,7 @@ use Prim.Native.Nat.{ℕ, _≤_}
 use native.Mathlib.Omega.{arith}
 use lib.ListN.{length}
 use Rattle.slices.proofs.PartLaws.{length-part}
-use Rattle.fields.specs.Pieces.{held, Placed}
+use Rattle.fields.specs.Pieces.{orZero, Placed}
 use Rattle.fields.specs.Head.{continues, routePieces, placePieces, headPieces, tailPieces}
 use Rattle.fields.specs.Leg.{pathPieces, coursePieces, heightPieces, centrePieces, legPieces}
 use Rattle.fields.specs.Continuation.{applicationPieces, continuationPieces}
@@ -41,7 +41,7 @@ none : (w : ℕ) → 0 ≤ w
 none w = omega arith
 
 -- a byte or byte 0, either way one
-either : (t : Bool) (b : ℕ) → length (held t (b ∷ [])) ≤ 1
+either : (t : Bool) (b : ℕ) → length (orZero t (b ∷ [])) ≤ 1
 either true b = omega arith
 either false b = omega arith
 

@@ -11,7 +11,7 @@ use lib.Seq.{sets, length-sets}
 use borrow.Author.Tests.{lt-ltb, le-ltb, ne-eqb}
 use Rattle.slices.specs.Part.{part, blank}
 use Rattle.slices.proofs.PartLaws.{part-all}
-use Rattle.fields.specs.Pieces.{Piece, held, put, putAll}
+use Rattle.fields.specs.Pieces.{Piece, orZero, put, putAll}
 use Rattle.fields.specs.Numbers.{digitsOf, marked}
 use Rattle.fields.specs.Text.{bytesOf, textBytes, wordBytes, letterBytes}
 use Rattle.fields.specs.declared.text.Text.{Text}
@@ -38,8 +38,8 @@ unfolding put
 as-put at bs x e = e
 
 -- the same where what is right is known by an equation
-pub as-right : (at : ℕ) (bs x : List ℕ) {q r : Bool} {z : List ℕ} → q ≡ r → z ≡ put at (held q bs) x → z ≡ put at (held r bs) x
-as-right at bs x {q} {r} {z} h e = subst (λ (t : Bool). z ≡ put at (held t bs) x) h e
+pub as-right : (at : ℕ) (bs x : List ℕ) {q r : Bool} {z : List ℕ} → q ≡ r → z ≡ put at (orZero q bs) x → z ≡ put at (orZero r bs) x
+as-right at bs x {q} {r} {z} h e = subst (λ (t : Bool). z ≡ put at (orZero t bs) x) h e
 
 pub length-putAll : (ps : List Piece) (out : List ℕ) → length (putAll ps out) ≡ length out
 unfolding putAll put
@@ -84,10 +84,10 @@ module _ (at : ℕ) (out : List ℕ) {z : List ℕ} where
   unfolding put
   put-one b e = e ∙ rw add-zero
 
-  pub if-right : (right : Bool) (b : ℕ) → right ≡ true → z ≡ put at (b ∷ []) out → z ≡ put at (held right (b ∷ [])) out
+  pub if-right : (right : Bool) (b : ℕ) → right ≡ true → z ≡ put at (b ∷ []) out → z ≡ put at (orZero right (b ∷ [])) out
   if-right right b h e = rw h e
 
-  pub if-wrong : (right : Bool) (b : ℕ) → right ≡ false → z ≡ put at (0 ∷ []) out → z ≡ put at (held right (b ∷ [])) out
+  pub if-wrong : (right : Bool) (b : ℕ) → right ≡ false → z ≡ put at (0 ∷ []) out → z ≡ put at (orZero right (b ∷ [])) out
   if-wrong right b h e = rw h e
 
   module _ (n : ℕ) (t : Text) where

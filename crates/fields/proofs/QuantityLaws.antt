@@ -21,7 +21,7 @@ use Rattle.columns.proofs.Printable.{each-at}
 use Rattle.leg.specs.Terminator.{terminatorOf, nameOf}
 use Rattle.leg.proofs.Legality.{named-back}
 use Rattle.leg.proofs.TerminatorLaws.{row-of}
-use Rattle.fields.specs.Pieces.{padded}
+use Rattle.fields.specs.Pieces.{withBlanks}
 use Rattle.fields.specs.Numbers.{digitsOf, marked, numeral}
 use Rattle.fields.specs.Quantities.{
   rnpOf,
@@ -70,7 +70,7 @@ use Rattle.fields.specs.declared.turn.Turn.{Turn}
 use Rattle.fields.specs.declared.turn.Turn.the-variants as turn
 use Rattle.fields.proofs.NumberLaws.{digits-length, digits-value, digits-back, digits-each}
 use Rattle.fields.proofs.Field.{Sound, Field}
-use Rattle.fields.proofs.TextLaws.{padded-full, padded-none, unsound}
+use Rattle.fields.proofs.TextLaws.{with-blanks-full, with-blanks-none, unsound}
 
 -- ---- digits between marks
 
@@ -96,18 +96,18 @@ module _ (w : ℕ) (before : List ℕ) (n : ℕ) (after : List ℕ) (wide : leng
   -- a number that its field holds
   record Held (v : ℕ) : Type 0 where
     below : v < 10 ^ n
-    bytes : padded w (marked before n after v) ≡ before ++ (digitsOf n v ++ after)
+    bytes : withBlanks w (marked before n after v) ≡ before ++ (digitsOf n v ++ after)
     digits : Each Digit (digitsOf n v)
     worth : value (digitsOf n v) ≡ v
 
-  marked-held : (v : ℕ) → Sound (padded w (marked before n after v)) → Held v
+  marked-held : (v : ℕ) → Sound (withBlanks w (marked before n after v)) → Held v
   unfolding marked
   marked-held v s = split (ltb v (10 ^ n)) fits (λ e. unsound w (rw e at s))
     where
       fits : ltb v (10 ^ n) ≡ true → Held v
       fits e =
           let l : v < 10 ^ n = ltb-true v (10 ^ n) e in
-          record { below = l; bytes = rw e (padded-full w (before ++ (digitsOf n v ++ after)) (full v)); digits = digits-each n v l; worth = digits-value n v l }
+          record { below = l; bytes = rw e (with-blanks-full w (before ++ (digitsOf n v ++ after)) (full v)); digits = digits-each n v l; worth = digits-value n v l }
 
 -- what tells digits from marks and from blanks
 digit-first : (f : List ℕ) (k : ℕ) → k < length f → Each Digit f → (48 ≤ getD f k 0) × (getD f k 0 ≤ 57)
@@ -124,15 +124,15 @@ digits-filled (b ∷ f) h d = not-blank b f (λ e. omega (arith, d .0 .0))
 -- ---- plain numbers
 
 module _ (n : ℕ) where
-  number-back : (f : List ℕ) → Digits (suc n) f → padded (suc n) (numeral (suc n) (value f)) ≡ f
+  number-back : (f : List ℕ) → Digits (suc n) f → withBlanks (suc n) (numeral (suc n) (value f)) ≡ f
   number-back f d =
       let e : numeral (suc n) (value f) ≡ f = marked-back [] (suc n) [] f d ∙ append-nil f in
-      padded-full (suc n) (numeral (suc n) (value f)) (ap length e ∙ d .0) ∙ e
+      with-blanks-full (suc n) (numeral (suc n) (value f)) (ap length e ∙ d .0) ∙ e
 
   number-wide : length {A = ℕ} [] + (suc n + length {A = ℕ} []) ≡ suc n
   number-wide = omega arith
 
-  number-held : (v : ℕ) → Sound (padded (suc n) (numeral (suc n) v)) → (padded (suc n) (numeral (suc n) v) ≡ digitsOf (suc n) v) × Held (suc n) [] (suc n) [] number-wide v
+  number-held : (v : ℕ) → Sound (withBlanks (suc n) (numeral (suc n) v)) → (withBlanks (suc n) (numeral (suc n) v) ≡ digitsOf (suc n) v) × Held (suc n) [] (suc n) [] number-wide v
   number-held v s = let h = marked-held (suc n) [] (suc n) [] number-wide v s in (h .bytes ∙ append-nil (digitsOf (suc n) v), h)
 
   pub number-field : Field (suc n) value (numeral (suc n)) (Digits (suc n))
@@ -149,23 +149,23 @@ module _ (n : ℕ) where
     optional-short v = ⊎-elim (λ e. subst (λ (x : A). length (bytes x) ≤ suc n) (sym e) (rw none (omega arith)))
         (λ r. subst (λ (x : A). length (bytes x) ≤ suc n) (sym (r .1)) (rw (some (r .0)) (number-field .short (r .0)))) (cases v)
 
-    optional-back : (f : List ℕ) → OrBlank (suc n) (Digits (suc n)) f → padded (suc n) (bytes (of f)) ≡ f
-    optional-back f (inl d) = ap (λ (x : A). padded (suc n) (bytes x)) (number-of f (digits-filled f (omega (arith, d .0)) (d .1))) ∙ ap (padded (suc n)) (some (value f)) ∙ number-back f d
+    optional-back : (f : List ℕ) → OrBlank (suc n) (Digits (suc n)) f → withBlanks (suc n) (bytes (of f)) ≡ f
+    optional-back f (inl d) = ap (λ (x : A). withBlanks (suc n) (bytes x)) (number-of f (digits-filled f (omega (arith, d .0)) (d .1))) ∙ ap (withBlanks (suc n)) (some (value f)) ∙ number-back f d
     optional-back f (inr e) =
-        ap (λ (x : A). padded (suc n) (bytes x)) (blank-of f (ap blank e ∙ blank-replicate (suc n))) ∙ ap (padded (suc n)) none ∙ padded-none (suc n) ∙ sym e
+        ap (λ (x : A). withBlanks (suc n) (bytes x)) (blank-of f (ap blank e ∙ blank-replicate (suc n))) ∙ ap (withBlanks (suc n)) none ∙ with-blanks-none (suc n) ∙ sym e
 
-    optional-there : (v : A) → Sound (padded (suc n) (bytes v)) → of (padded (suc n) (bytes v)) ≡ v
+    optional-there : (v : A) → Sound (withBlanks (suc n) (bytes v)) → of (withBlanks (suc n) (bytes v)) ≡ v
     optional-there v s = ⊎-elim gone here (cases v)
       where
-        gone : v ≡ absent → of (padded (suc n) (bytes v)) ≡ v
-        gone e = ap (λ (x : A). of (padded (suc n) (bytes x))) e ∙ ap (λ (x : List ℕ). of (padded (suc n) x)) none ∙ ap of (padded-none (suc n)) ∙ blank-of (replicate (suc n) 32) (blank-replicate (suc n)) ∙ sym e
+        gone : v ≡ absent → of (withBlanks (suc n) (bytes v)) ≡ v
+        gone e = ap (λ (x : A). of (withBlanks (suc n) (bytes x))) e ∙ ap (λ (x : List ℕ). of (withBlanks (suc n) x)) none ∙ ap of (with-blanks-none (suc n)) ∙ blank-of (replicate (suc n) 32) (blank-replicate (suc n)) ∙ sym e
 
-        here : (k : ℕ) × (v ≡ is k) → of (padded (suc n) (bytes v)) ≡ v
+        here : (k : ℕ) × (v ≡ is k) → of (withBlanks (suc n) (bytes v)) ≡ v
         here r =
             let k : ℕ = r .0 in
             let b : bytes v ≡ numeral (suc n) k = ap bytes (r .1) ∙ some k in
-            let h = number-held k (subst (λ (x : List ℕ). Sound (padded (suc n) x)) b s) in
-            let q : padded (suc n) (bytes v) ≡ digitsOf (suc n) k = ap (padded (suc n)) b ∙ h .0 in
+            let h = number-held k (subst (λ (x : List ℕ). Sound (withBlanks (suc n) x)) b s) in
+            let q : withBlanks (suc n) (bytes v) ≡ digitsOf (suc n) k = ap (withBlanks (suc n)) b ∙ h .0 in
             let l : 1 ≤ length (digitsOf (suc n) k) = rw (digits-length (suc n) k) (omega arith) in
             ap of q ∙ number-of (digitsOf (suc n) k) (digits-filled (digitsOf (suc n) k) l (h .1 .digits)) ∙ ap is (h .1 .worth) ∙ sym (r .1)
 
@@ -228,7 +228,7 @@ speed-field = optional 2 speed.Absent (λ k. speed.Is (record { 0 = k })) speedB
 -- ---- the turn and the terminator
 
 pub turn-field : Field 1 turnOf turnBytes (Code "LRE ")
-unfolding turnOf turnBytes padded each
+unfolding turnOf turnBytes withBlanks each
 turn-field = record { short = short; back = back; there = there }
   where
     short : (v : Turn) → length (turnBytes v) ≤ 1
@@ -237,16 +237,16 @@ turn-field = record { short = short; back = back; there = there }
     short turn.Right = omega arith
     short turn.Either = omega arith
 
-    of : (f : List ℕ) {b : ℕ} → f ≡ b ∷ [] → padded 1 (turnBytes (turnOf (b ∷ []))) ≡ b ∷ [] → padded 1 (turnBytes (turnOf f)) ≡ f
+    of : (f : List ℕ) {b : ℕ} → f ≡ b ∷ [] → withBlanks 1 (turnBytes (turnOf (b ∷ []))) ≡ b ∷ [] → withBlanks 1 (turnBytes (turnOf f)) ≡ f
     of f e h = rw e h
 
-    back : (f : List ℕ) → Code "LRE " f → padded 1 (turnBytes (turnOf f)) ≡ f
+    back : (f : List ℕ) → Code "LRE " f → withBlanks 1 (turnBytes (turnOf f)) ≡ f
     back f m =
         ⊎-elim (λ e. of f e refl)
         (λ m. ⊎-elim (λ e. of f e refl) (λ m. ⊎-elim (λ e. of f e refl) (λ m. ⊎-elim (λ e. of f e refl) (λ m. absurd (List·Memᴰ·not-nil m)) (List·Memᴰ·cases-cons m)) (List·Memᴰ·cases-cons m)) (List·Memᴰ·cases-cons m))
         (List·Memᴰ·cases-cons m)
 
-    there : (v : Turn) → Sound (padded 1 (turnBytes v)) → turnOf (padded 1 (turnBytes v)) ≡ v
+    there : (v : Turn) → Sound (withBlanks 1 (turnBytes v)) → turnOf (withBlanks 1 (turnBytes v)) ≡ v
     there turn.Absent s = refl
     there turn.Left s = refl
     there turn.Right s = refl
@@ -255,27 +255,27 @@ turn-field = record { short = short; back = back; there = there }
 pub terminator-field : Field 2 terminatorOf nameOf (OneOf terminators)
 terminator-field = record {
   short = λ t. rw (row-of t .its-width) (omega arith);
-  back = λ f m. padded-full 2 (nameOf (terminatorOf f)) (row-of (terminatorOf f) .its-width) ∙ sym (named-back f m);
-  there = λ t s. ap terminatorOf (padded-full 2 (nameOf t) (row-of t .its-width)) ∙ row-of t .its-name;
+  back = λ f m. with-blanks-full 2 (nameOf (terminatorOf f)) (row-of (terminatorOf f) .its-width) ∙ sym (named-back f m);
+  there = λ t s. ap terminatorOf (with-blanks-full 2 (nameOf t) (row-of t .its-width)) ∙ row-of t .its-name;
 }
 
 -- ---- numbers with a mark
 
 -- a blank field, and an absent part
 module _ {A : Type 0} (w : ℕ) (absent : A) (bytes : A → List ℕ) (none : bytes absent ≡ []) (of : List ℕ → A) (blank-of : (f : List ℕ) → blank f ≡ true → of f ≡ absent) where
-  absent-back : (f : List ℕ) → Blank w f → padded w (bytes (of f)) ≡ f
-  absent-back f e = ap (λ (x : A). padded w (bytes x)) (blank-of f (ap blank e ∙ blank-replicate w)) ∙ ap (padded w) none ∙ padded-none w ∙ sym e
+  absent-back : (f : List ℕ) → Blank w f → withBlanks w (bytes (of f)) ≡ f
+  absent-back f e = ap (λ (x : A). withBlanks w (bytes x)) (blank-of f (ap blank e ∙ blank-replicate w)) ∙ ap (withBlanks w) none ∙ with-blanks-none w ∙ sym e
 
-  absent-there : of (padded w (bytes absent)) ≡ absent
-  absent-there = ap (λ (x : List ℕ). of (padded w x)) none ∙ ap of (padded-none w) ∙ blank-of (replicate w 32) (blank-replicate w)
+  absent-there : of (withBlanks w (bytes absent)) ≡ absent
+  absent-there = ap (λ (x : List ℕ). of (withBlanks w x)) none ∙ ap of (with-blanks-none w) ∙ blank-of (replicate w 32) (blank-replicate w)
 
 -- a field that is read as a marked number, and written again
 marked-again : {A : Type 0} (w : ℕ) (bytes : A → List ℕ) (of : List ℕ → A) (before : List ℕ) (n : ℕ) (after f h : List ℕ) (v : A)
-    → length before + (n + length after) ≡ w → Digits n h → f ≡ before ++ (h ++ after) → of f ≡ v → bytes v ≡ marked before n after (value h) → padded w (bytes (of f)) ≡ f
+    → length before + (n + length after) ≡ w → Digits n h → f ≡ before ++ (h ++ after) → of f ≡ v → bytes v ≡ marked before n after (value h) → withBlanks w (bytes (of f)) ≡ f
 marked-again {A} w bytes of before n after f h v wide d e q b =
     let m : bytes (of f) ≡ f = ap bytes q ∙ b ∙ marked-back before n after h d ∙ sym e in
     let l : length f ≡ w = ap length e ∙ length-append before (h ++ after) ∙ ap (λ (k : ℕ). length before + k) (length-append h after ∙ ap (λ (k : ℕ). k + length after) (d .0)) ∙ wide in
-    padded-full w (bytes (of f)) (ap length m ∙ l) ∙ m
+    with-blanks-full w (bytes (of f)) (ap length m ∙ l) ∙ m
 
 three : (f : List ℕ) → length f ≡ 3 → part 3 0 f ≡ f
 three f e = ap (λ (k : ℕ). part k 0 f) (sym e) ∙ part-all f
@@ -300,13 +300,13 @@ vertical-angle-field = record { short = short; back = back; there = there }
     short verticalAngle.Absent = omega arith
     short (verticalAngle.Down v) = marked-short 4 (45 ∷ []) 3 [] refl (omega arith) (v .0)
 
-    back : (f : List ℕ) → OrBlank 4 (Then (Is "-") (Digits 3)) f → padded 4 (verticalAngleBytes (verticalAngleOf f)) ≡ f
+    back : (f : List ℕ) → OrBlank 4 (Then (Is "-") (Digits 3)) f → withBlanks 4 (verticalAngleBytes (verticalAngleOf f)) ≡ f
     back f (inl (g, h, e, q, d)) =
         let s : f ≡ 45 ∷ (h ++ []) = e ∙ ap (λ (t : List ℕ). t ++ h) q ∙ ap (λ (t : List ℕ). 45 ∷ t) (sym (append-nil h)) in
         marked-again 4 verticalAngleBytes verticalAngleOf (45 ∷ []) 3 [] f h (verticalAngle.Down (record { 0 = value h })) refl d s (ap verticalAngleOf s ∙ vertical-of h (d .0)) refl
     back f (inr e) = absent-back 4 verticalAngle.Absent verticalAngleBytes refl verticalAngleOf vertical-blank f e
 
-    there : (v : VerticalAngle) → Sound (padded 4 (verticalAngleBytes v)) → verticalAngleOf (padded 4 (verticalAngleBytes v)) ≡ v
+    there : (v : VerticalAngle) → Sound (withBlanks 4 (verticalAngleBytes v)) → verticalAngleOf (withBlanks 4 (verticalAngleBytes v)) ≡ v
     there verticalAngle.Absent s = absent-there 4 verticalAngle.Absent verticalAngleBytes refl verticalAngleOf vertical-blank
     there (verticalAngle.Down v) s =
         let h = marked-held 4 (45 ∷ []) 3 [] refl (v .0) s in
@@ -340,14 +340,14 @@ course-field = record { short = short; back = back; there = there }
     short (course.Magnetic v) = marked-short 4 [] 4 [] refl (omega arith) (v .0)
     short (course.True v) = marked-short 4 [] 3 (84 ∷ []) refl (omega arith) (v .0)
 
-    back : (f : List ℕ) → OrBlank 4 Course f → padded 4 (courseBytes (courseOf f)) ≡ f
+    back : (f : List ℕ) → OrBlank 4 Course f → withBlanks 4 (courseBytes (courseOf f)) ≡ f
     back f (inl (inl (d, m))) = marked-again 4 courseBytes courseOf [] 4 [] f f (course.Magnetic (record { 0 = value f })) refl d (sym (append-nil f)) (course-magnetic f d) refl
     back f (inl (inr (g, h, e, (d, m), q))) =
         let s : f ≡ g ++ (84 ∷ []) = e ∙ ap (λ (t : List ℕ). g ++ t) q in
         marked-again 4 courseBytes courseOf [] 3 (84 ∷ []) f g (course.True (record { 0 = value g })) refl d s (ap courseOf s ∙ course-true g d) refl
     back f (inr e) = absent-back 4 course.Absent courseBytes refl courseOf course-blank f e
 
-    there : (v : CoursePart) → Sound (padded 4 (courseBytes v)) → courseOf (padded 4 (courseBytes v)) ≡ v
+    there : (v : CoursePart) → Sound (withBlanks 4 (courseBytes v)) → courseOf (withBlanks 4 (courseBytes v)) ≡ v
     there course.Absent s = absent-there 4 course.Absent courseBytes refl courseOf course-blank
     there (course.Magnetic v) s =
         let h = number-held 3 (v .0) s in
@@ -385,7 +385,7 @@ altitude-field = record { short = short; back = back; there = there }
     short (altitude.Below v) = marked-short 5 (45 ∷ []) 4 [] refl (omega arith) (v .0)
     short (altitude.Level v) = marked-short 5 (70 ∷ (76 ∷ [])) 3 [] refl (omega arith) (v .0)
 
-    back : (f : List ℕ) → OrBlank 5 Altitude f → padded 5 (altitudeBytes (altitudeOf f)) ≡ f
+    back : (f : List ℕ) → OrBlank 5 Altitude f → withBlanks 5 (altitudeBytes (altitudeOf f)) ≡ f
     back f (inl (inl (inl d))) = marked-again 5 altitudeBytes altitudeOf [] 5 [] f f (altitude.Feet (record { 0 = value f })) refl d (sym (append-nil f)) (altitude-feet f d) refl
     back f (inl (inl (inr (g, h, e, q, d)))) =
         let s : f ≡ 70 ∷ (76 ∷ (h ++ [])) = e ∙ ap (λ (t : List ℕ). t ++ h) q ∙ ap (λ (t : List ℕ). 70 ∷ (76 ∷ t)) (sym (append-nil h)) in
@@ -395,7 +395,7 @@ altitude-field = record { short = short; back = back; there = there }
         marked-again 5 altitudeBytes altitudeOf (45 ∷ []) 4 [] f h (altitude.Below (record { 0 = value h })) refl d s (ap altitudeOf s ∙ altitude-below h (d .0)) refl
     back f (inr e) = absent-back 5 altitude.Absent altitudeBytes refl altitudeOf altitude-blank f e
 
-    there : (v : AltitudePart) → Sound (padded 5 (altitudeBytes v)) → altitudeOf (padded 5 (altitudeBytes v)) ≡ v
+    there : (v : AltitudePart) → Sound (withBlanks 5 (altitudeBytes v)) → altitudeOf (withBlanks 5 (altitudeBytes v)) ≡ v
     there altitude.Absent s = absent-there 5 altitude.Absent altitudeBytes refl altitudeOf altitude-blank
     there (altitude.Feet v) s =
         let h = number-held 4 (v .0) s in
@@ -438,7 +438,7 @@ minutes-on holding f g e (inl (inl d)) = let z : getD f 0 0 ≡ 84 = ap (λ (x :
 minutes-on holding f g e (inl (inr b)) = let z : _≡_ {A = ℕ} 84 32 = sym (ap (λ (x : List ℕ). getD x 0 0) e) ∙ ap (λ (x : List ℕ). getD x 0 0) b in absurd (omega arith)
 minutes-on holding f g e (inr (t, r)) = t
 
-pub distance-back : (holding : Bool) (f : List ℕ) → DistanceOn holding f → padded 4 (distanceBytes (distanceOf holding f)) ≡ f
+pub distance-back : (holding : Bool) (f : List ℕ) → DistanceOn holding f → withBlanks 4 (distanceBytes (distanceOf holding f)) ≡ f
 unfolding distanceBytes codes
 distance-back holding f (inl (inl d)) =
     marked-again 4 distanceBytes (distanceOf holding) [] 4 [] f f (distance.Miles (record { 0 = value f })) refl d (sym (append-nil f)) (distance-miles holding f d) refl
@@ -448,7 +448,7 @@ distance-back holding f (inr (t, (g, h, e, q, d))) =
     marked-again 4 distanceBytes (distanceOf holding) (84 ∷ []) 3 [] f h (distance.Minutes (record { 0 = value h })) refl d s
     (ap (λ (b : Bool). distanceOf b f) t ∙ ap (distanceOf true) s ∙ distance-minutes h (d .0)) refl
 
-pub distance-there : (holding : Bool) (v : DistancePart) → Sound (padded 4 (distanceBytes v)) → DistanceOn holding (padded 4 (distanceBytes v)) → distanceOf holding (padded 4 (distanceBytes v)) ≡ v
+pub distance-there : (holding : Bool) (v : DistancePart) → Sound (withBlanks 4 (distanceBytes v)) → DistanceOn holding (withBlanks 4 (distanceBytes v)) → distanceOf holding (withBlanks 4 (distanceBytes v)) ≡ v
 unfolding distanceBytes codes
 distance-there holding distance.Absent s g = absent-there 4 distance.Absent distanceBytes refl (distanceOf holding) (distance-blank holding)
 distance-there holding (distance.Miles v) s g =
@@ -456,7 +456,7 @@ distance-there holding (distance.Miles v) s g =
     ap (distanceOf holding) (h .0) ∙ distance-miles holding (digitsOf 4 (v .0)) (digits-length 4 (v .0), h .1 .digits) ∙ ap (λ (k : ℕ). distance.Miles (record { 0 = k })) (h .1 .worth)
 distance-there holding (distance.Minutes v) s g =
     let h = marked-held 4 (84 ∷ []) 3 [] refl (v .0) s in
-    let t : holding ≡ true = minutes-on holding (padded 4 (marked (84 ∷ []) 3 [] (v .0))) _ (h .bytes) g in
+    let t : holding ≡ true = minutes-on holding (withBlanks 4 (marked (84 ∷ []) 3 [] (v .0))) _ (h .bytes) g in
     ap (distanceOf holding) (h .bytes)
     ∙ ap (λ (b : Bool). distanceOf b (84 ∷ (digitsOf 3 (v .0) ++ []))) t
     ∙ distance-minutes (digitsOf 3 (v .0)) (digits-length 3 (v .0))

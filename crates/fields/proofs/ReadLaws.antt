@@ -26,11 +26,11 @@ use Rattle.fields.specs.declared.quantities.VerticalAngle.the-variants a
 -- ---- text
 
 module _ (n i : ℕ) (xs : List ℕ) (k : ℕ) where
-  pub padded-within : k < n → getD (part n i xs) k 32 ≡ getD xs (i + k) 0
-  padded-within h = getD-any (part n i xs) k 32 0 (rw length-part h) ∙ getD-part n i xs k h
+  pub with-blanks-within : k < n → getD (part n i xs) k 32 ≡ getD xs (i + k) 0
+  with-blanks-within h = getD-any (part n i xs) k 32 0 (rw length-part h) ∙ getD-part n i xs k h
 
-  pub padded-past : n ≤ k → getD (part n i xs) k 32 ≡ 32
-  padded-past h = List·getD-eq-default (part n i xs) 32 (rw length-part h)
+  pub with-blanks-past : n ≤ k → getD (part n i xs) k 32 ≡ 32
+  with-blanks-past h = List·getD-eq-default (part n i xs) 32 (rw length-part h)
 
 module _ (rec : List ℕ) (at : ℕ) {b : ℕ} (e : b ≡ getD rec at 0) where
   pub letter-absent : b ≡ 32 → letter.Absent ≡ letterOf (part 1 at rec)

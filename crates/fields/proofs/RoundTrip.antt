@@ -26,7 +26,7 @@ use Rattle.columns.proofs.Printable.{printable-columns}
 use Rattle.leg.specs.Terminator.{terminatorOf, nameOf, isHolding}
 use Rattle.leg.proofs.Legality.{named-back}
 use Rattle.leg.proofs.TerminatorLaws.{row-of}
-use Rattle.fields.specs.Pieces.{padded, held, putAll, blanks, Holds}
+use Rattle.fields.specs.Pieces.{withBlanks, orZero, putAll, blanks, Holds}
 use Rattle.fields.specs.Text.{textOf, textBytes, wordOf, wordBytes, letterOf, letterBytes}
 use Rattle.fields.specs.Quantities.{distanceOf, distanceBytes}
 use Rattle.fields.specs.Head.{continues, routeOf, fixOf, headOf, cycleOf, tailOf, routePieces, placePieces, headPieces, tailPieces}
@@ -40,7 +40,7 @@ use Rattle.fields.specs.declared.continuation.Continuation.{Continuation
 use Rattle.fields.proofs.Field.{Sound, Field}
 use Rattle.fields.proofs.PieceLaws.{made-holds, held-made, holds-append, holds-left, holds-right}
 use Rattle.fields.proofs.Placed.{leg-placed, continuation-placed}
-use Rattle.fields.proofs.TextLaws.{padded-full, padded-none, unsound, text-field, word-field, letter-field}
+use Rattle.fields.proofs.TextLaws.{with-blanks-full, with-blanks-none, unsound, text-field, word-field, letter-field}
 use Rattle.fields.proofs.QuantityLaws.{
   number-field,
   rnp-field,
@@ -62,21 +62,21 @@ use Rattle.fields.proofs.QuantityLaws.{
 -- ---- from a legal record to its pieces
 
 -- a field that is read and written holds what it held
-stays : {A : Type 0} {w : ℕ} {of : List ℕ → A} {bytes : A → List ℕ} {Good : List ℕ → Type 0} → Field w of bytes Good → (f : List ℕ) → Good f → f ≡ padded w (bytes (of f))
+stays : {A : Type 0} {w : ℕ} {of : List ℕ → A} {bytes : A → List ℕ} {Good : List ℕ → Type 0} → Field w of bytes Good → (f : List ℕ) → Good f → f ≡ withBlanks w (bytes (of f))
 stays field f h = sym (field .back f h)
 
-byte-stays : (rec : List ℕ) (i : ℕ) → part 1 i rec ≡ padded 1 (getD rec i 0 ∷ [])
-unfolding part padded
+byte-stays : (rec : List ℕ) (i : ℕ) → part 1 i rec ≡ withBlanks 1 (getD rec i 0 ∷ [])
+unfolding part withBlanks
 byte-stays rec i = refl
 
-right-stays : (rec : List ℕ) (i : ℕ) (t : Bool) → t ≡ true → part 1 i rec ≡ padded 1 (held t (getD rec i 0 ∷ []))
+right-stays : (rec : List ℕ) (i : ℕ) (t : Bool) → t ≡ true → part 1 i rec ≡ withBlanks 1 (orZero t (getD rec i 0 ∷ []))
 right-stays rec i t e = rw e (byte-stays rec i)
 
-blank-stays : (w : ℕ) (f : List ℕ) → Blank w f → f ≡ padded w []
-blank-stays w f e = e ∙ sym (padded-none w)
+blank-stays : (w : ℕ) (f : List ℕ) → Blank w f → f ≡ withBlanks w []
+blank-stays w f e = e ∙ sym (with-blanks-none w)
 
-airport-stays : (f : List ℕ) → Is "P" f → f ≡ padded 1 (code "P" ∷ [])
-unfolding codes padded
+airport-stays : (f : List ℕ) → Is "P" f → f ≡ withBlanks 1 (code "P" ∷ [])
+unfolding codes withBlanks
 airport-stays f e = e
 
 first-two : (g h : List ℕ) → length g ≡ 2 → part 2 0 (g ++ h) ≡ g
@@ -123,10 +123,10 @@ continuation-number : (rec : List ℕ) → All 1 ContinuationNumber (columns 39 
 unfolding continues part
 continuation-number rec h = continuationNumber (getD rec 38 0) .1 (h .1 .0)
 
-content-stays : (rec : List ℕ) → part 83 40 rec ≡ padded 83 (part 83 0 (columns 41 123 rec))
+content-stays : (rec : List ℕ) → part 83 40 rec ≡ withBlanks 83 (part 83 0 (columns 41 123 rec))
 content-stays rec =
     let e : part 83 0 (columns 41 123 rec) ≡ part 83 40 rec = part-part 83 0 83 40 rec (omega arith) in
-    sym (padded-full 83 (part 83 0 (columns 41 123 rec)) (length-part 83 0 (columns 41 123 rec)) ∙ e)
+    sym (with-blanks-full 83 (part 83 0 (columns 41 123 rec)) (length-part 83 0 (columns 41 123 rec)) ∙ e)
 
 -- H in column 48 is a holding
 holding : (f : List ℕ) (b : ℕ) → OneOf terminators f → getD f 0 0 ≡ b → b ≡ code "H" → isHolding (terminatorOf f) ≡ true
@@ -142,13 +142,13 @@ distance-on rec c = by (c .distance)
     by (inr (h, t)) = inr (holding (columns 48 49 rec) (byteIn 48 rec) (c .terminator) (first-byte rec 47 1) h, t)
 
 module _ (rec : List ℕ) where
-  text-stays : (n i : ℕ) → 1 ≤ n → n ≤ 6 → part n i rec ≡ padded n (textBytes n (textOf (part n i rec)))
+  text-stays : (n i : ℕ) → 1 ≤ n → n ≤ 6 → part n i rec ≡ withBlanks n (textBytes n (textOf (part n i rec)))
   text-stays n i h k = stays (text-field n h k) (part n i rec) (length-part n i rec)
 
-  word-stays : (n i : ℕ) → 1 ≤ n → n ≤ 6 → part n i rec ≡ padded n (wordBytes n (wordOf (part n i rec)))
+  word-stays : (n i : ℕ) → 1 ≤ n → n ≤ 6 → part n i rec ≡ withBlanks n (wordBytes n (wordOf (part n i rec)))
   word-stays n i h k = stays (word-field n h k) (part n i rec) (length-part n i rec)
 
-  letter-stays : (i : ℕ) → part 1 i rec ≡ padded 1 (letterBytes (letterOf (part 1 i rec)))
+  letter-stays : (i : ℕ) → part 1 i rec ≡ withBlanks 1 (letterBytes (letterOf (part 1 i rec)))
   letter-stays i = stays letter-field (part 1 i rec) (length-part 1 i rec)
 
   route-stays : Front rec → Holds rec (routePieces (routeOf rec))
@@ -413,16 +413,16 @@ module _ (rec : List ℕ) (sounds : Sounds rec) where
 
   -- a field that holds a piece gives the part that the piece was made of
   returns : {A : Type 0} {n : ℕ} {of : List ℕ → A} {bytes : A → List ℕ} {Good : List ℕ → Type 0} → Field (suc n) of bytes Good → (i : ℕ) → i < 132 → (v : A)
-      → part (suc n) i rec ≡ padded (suc n) (bytes v) → of (part (suc n) i rec) ≡ v
-  returns {n = n} {of = of} {bytes = bytes} field i h v e = ap of e ∙ field .there v (sound-at n i (padded (suc n) (bytes v)) h e)
+      → part (suc n) i rec ≡ withBlanks (suc n) (bytes v) → of (part (suc n) i rec) ≡ v
+  returns {n = n} {of = of} {bytes = bytes} field i h v e = ap of e ∙ field .there v (sound-at n i (withBlanks (suc n) (bytes v)) h e)
 
-  byte-returns : (i b : ℕ) → part 1 i rec ≡ padded 1 (b ∷ []) → getD rec i 0 ≡ b
-  unfolding padded
+  byte-returns : (i b : ℕ) → part 1 i rec ≡ withBlanks 1 (b ∷ []) → getD rec i 0 ≡ b
+  unfolding withBlanks
   byte-returns i b e = sym (first-byte rec i 0) ∙ ap (λ (x : List ℕ). getD x 0 0) e
 
-  right-returns : (i : ℕ) (t : Bool) (b : ℕ) → i < 132 → part 1 i rec ≡ padded 1 (held t (b ∷ [])) → getD rec i 0 ≡ b
+  right-returns : (i : ℕ) (t : Bool) (b : ℕ) → i < 132 → part 1 i rec ≡ withBlanks 1 (orZero t (b ∷ [])) → getD rec i 0 ≡ b
   right-returns i true b h e = byte-returns i b e
-  right-returns i false b h e = unsound 1 (sound-at 0 i (padded 1 (0 ∷ [])) h e)
+  right-returns i false b h e = unsound 1 (sound-at 0 i (withBlanks 1 (0 ∷ [])) h e)
 
   route-returns : (r : Route) → Holds rec (routePieces r) → routeOf rec ≡ r
   unfolding routePieces routeOf
@@ -515,10 +515,10 @@ module _ (rec : List ℕ) (sounds : Sounds rec) where
             tail = back j;
           }
         where
-          distance-returns : part 4 74 rec ≡ padded 4 (distanceBytes (g .distance)) → distanceOf (isHolding (terminatorOf (columns 48 49 rec))) (columns 75 78 rec) ≡ g .distance
+          distance-returns : part 4 74 rec ≡ withBlanks 4 (distanceBytes (g .distance)) → distanceOf (isHolding (terminatorOf (columns 48 49 rec))) (columns 75 78 rec) ≡ g .distance
           distance-returns e =
               ap (distanceOf (isHolding (terminatorOf (columns 48 49 rec)))) e
-              ∙ distance-there (isHolding (terminatorOf (columns 48 49 rec))) (g .distance) (sound-at 3 74 (padded 4 (distanceBytes (g .distance))) (omega arith) e)
+              ∙ distance-there (isHolding (terminatorOf (columns 48 49 rec))) (g .distance) (sound-at 3 74 (withBlanks 4 (distanceBytes (g .distance))) (omega arith) e)
               (subst (DistanceOn (isHolding (terminatorOf (columns 48 49 rec)))) e (distance-on rec w))
 
   continuation-returns : (c : Continuation) (content : List ℕ) → length content ≡ 83 → Holds rec (continuationPieces c content) → (continuationOf rec ≡ c) × (contentOf rec ≡ content)
@@ -535,7 +535,7 @@ module _ (rec : List ℕ) (sounds : Sounds rec) where
           application = returns letter-field 39 (omega arith) (c .application) p40 j;
           tail = back j;
         },
-        p41 ∙ padded-full 83 (part 83 0 content) (length-part 83 0 content) ∙ ap (λ (k : ℕ). part k 0 content) (sym l) ∙ part-all content,
+        p41 ∙ with-blanks-full 83 (part 83 0 content) (length-part 83 0 content) ∙ ap (λ (k : ℕ). part k 0 content) (sym l) ∙ part-all content,
       )
 
 -- ---- what a rendered record is
@@ -555,8 +555,8 @@ continuation-again c content l h =
     continuation-returns rec (legal-sounds rec (legal rec .1 (inr h))) c content l (made-holds (continuationPieces c content) (continuation-placed c content))
 
 -- its number tells its kind: a leg is never numbered as a continuation, and a continuation never as a primary
-numbered : (rec : List ℕ) (t : Bool) (b : ℕ) → part 1 38 rec ≡ padded 1 (held t (b ∷ [])) → getD rec 38 0 ≡ cond t b 0
-unfolding padded
+numbered : (rec : List ℕ) (t : Bool) (b : ℕ) → part 1 38 rec ≡ withBlanks 1 (orZero t (b ∷ [])) → getD rec 38 0 ≡ cond t b 0
+unfolding withBlanks
 numbered rec true b e = sym (first-byte rec 38 0) ∙ ap (λ (x : List ℕ). getD x 0 0) e
 numbered rec false b e = sym (first-byte rec 38 0) ∙ ap (λ (x : List ℕ). getD x 0 0) e
 
@@ -591,7 +591,7 @@ continuation-not-primary c content h =
     let p = continuation-groups rec c content (made-holds (continuationPieces c content) (continuation-placed c content)) .1 .0 in
     by rec (continues (c .number)) refl p sounds (primary-number rec (h .leg .continuation))
   where
-    by : (rec : List ℕ) (t : Bool) → continues (c .number) ≡ t → part 1 38 rec ≡ padded 1 (held t (c .number ∷ [])) → Sounds rec → continues (getD rec 38 0) ≡ false → ⊥
+    by : (rec : List ℕ) (t : Bool) → continues (c .number) ≡ t → part 1 38 rec ≡ withBlanks 1 (orZero t (c .number ∷ [])) → Sounds rec → continues (getD rec 38 0) ≡ false → ⊥
     by rec true e p s q = false≢true (sym q ∙ ap continues (numbered rec true (c .number) p) ∙ e)
     by rec false e p s q = sounds-not s (numbered rec false (c .number) p)
       where

@@ -11,7 +11,7 @@ use borrow.Author.Tests.{eqb-true}
 use Rattle.slices.specs.Part.{part, blank}
 use Rattle.slices.proofs.Cases.{split}
 use Rattle.slices.proofs.PartLaws.{length-part, part-append, blank-means, blank-replicate}
-use Rattle.fields.specs.Pieces.{padded}
+use Rattle.fields.specs.Pieces.{withBlanks}
 use Rattle.fields.specs.Text.{bytesOf, textOf, textBytes, wordOf, wordBytes, letterOf, letterBytes}
 use Rattle.fields.specs.declared.text.Text.{Text}
 use Rattle.fields.specs.declared.text.Word.{Word}
@@ -22,17 +22,17 @@ use Rattle.fields.proofs.Field.{Sound, Field}
 
 -- ---- blanks up to a width
 
-pub padded-full : (w : ℕ) (bs : List ℕ) → length bs ≡ w → padded w bs ≡ bs
-unfolding padded
-padded-full w bs h = let e : w - length bs ≡ 0 = omega arith in rw e (append-nil bs)
+pub with-blanks-full : (w : ℕ) (bs : List ℕ) → length bs ≡ w → withBlanks w bs ≡ bs
+unfolding withBlanks
+with-blanks-full w bs h = let e : w - length bs ≡ 0 = omega arith in rw e (append-nil bs)
 
-pub padded-none : (w : ℕ) → padded w [] ≡ replicate w 32
-unfolding padded
-padded-none w = let e : w - 0 ≡ w = omega arith in rw e
+pub with-blanks-none : (w : ℕ) → withBlanks w [] ≡ replicate w 32
+unfolding withBlanks
+with-blanks-none w = let e : w - 0 ≡ w = omega arith in rw e
 
 -- byte 0 stands first in what is not held
-pub unsound : {C : Type 0} (w : ℕ) → Sound (padded w (0 ∷ [])) → C
-unfolding padded
+pub unsound : {C : Type 0} (w : ℕ) → Sound (withBlanks w (0 ∷ [])) → C
+unfolding withBlanks
 unsound w s = absurd (s refl)
 
 -- ---- text
@@ -42,21 +42,21 @@ getD-blanks zero k = refl
 getD-blanks (suc m) zero = refl
 getD-blanks (suc m) (suc k) = getD-blanks m k
 
-getD-padded : (f : List ℕ) (m k : ℕ) → getD (f ++ replicate m 32) k 32 ≡ getD f k 32
-getD-padded [] m k = getD-blanks m k
-getD-padded (b ∷ f) m zero = refl
-getD-padded (b ∷ f) m (suc k) = getD-padded f m k
+getD-with-blanks : (f : List ℕ) (m k : ℕ) → getD (f ++ replicate m 32) k 32 ≡ getD f k 32
+getD-with-blanks [] m k = getD-blanks m k
+getD-with-blanks (b ∷ f) m zero = refl
+getD-with-blanks (b ∷ f) m (suc k) = getD-with-blanks f m k
 
 -- blanks behind a field say nothing
-text-padded : (f : List ℕ) (m : ℕ) → textOf (f ++ replicate m 32) ≡ textOf f
+text-with-blanks : (f : List ℕ) (m : ℕ) → textOf (f ++ replicate m 32) ≡ textOf f
 unfolding textOf
-text-padded f m = λ i. record {
-  0 = getD-padded f m 0 i;
-  1 = getD-padded f m 1 i;
-  2 = getD-padded f m 2 i;
-  3 = getD-padded f m 3 i;
-  4 = getD-padded f m 4 i;
-  5 = getD-padded f m 5 i;
+text-with-blanks f m = λ i. record {
+  0 = getD-with-blanks f m 0 i;
+  1 = getD-with-blanks f m 1 i;
+  2 = getD-with-blanks f m 2 i;
+  3 = getD-with-blanks f m 3 i;
+  4 = getD-with-blanks f m 4 i;
+  5 = getD-with-blanks f m 5 i;
 }
 
 text-again : (t : Text) → textOf (bytesOf t) ≡ t
@@ -91,13 +91,13 @@ module _ (n : ℕ) (h : 1 ≤ n) (k : n ≤ 6) where
   unfolding textBytes
   text-short t = split (blank (part (6 - n) n (bytesOf t))) (λ e. rw (e, length-part) (omega arith)) (λ e. rw e h)
 
-  text-back : (f : List ℕ) → length f ≡ n → padded n (textBytes n (textOf f)) ≡ f
+  text-back : (f : List ℕ) → length f ≡ n → withBlanks n (textBytes n (textOf f)) ≡ f
   text-back f l =
       let w : textBytes n (textOf f) ≡ f = ap (λ (m : ℕ). textBytes m (textOf f)) (sym l) ∙ six f (omega arith) .written in
-      padded-full n (textBytes n (textOf f)) (ap length w ∙ l) ∙ w
+      with-blanks-full n (textBytes n (textOf f)) (ap length w ∙ l) ∙ w
 
   -- a text that the field holds: its first n bytes, and blanks behind them
-  text-held : (t : Text) → Sound (padded n (textBytes n t)) → (padded n (textBytes n t) ≡ part n 0 (bytesOf t)) × (textOf (part n 0 (bytesOf t)) ≡ t)
+  text-held : (t : Text) → Sound (withBlanks n (textBytes n t)) → (withBlanks n (textBytes n t) ≡ part n 0 (bytesOf t)) × (textOf (part n 0 (bytesOf t)) ≡ t)
   unfolding textBytes
   text-held t s =
       split (blank (part (6 - n) n (bytesOf t)))
@@ -105,7 +105,7 @@ module _ (n : ℕ) (h : 1 ≤ n) (k : n ≤ 6) where
       let w : part (6 - n) n (bytesOf t) ≡ replicate (6 - n) 32 = blank-means _ e ∙ rw length-part in
       let m : n + (6 - n) ≡ 6 = omega arith in
       let q : bytesOf t ≡ part n 0 (bytesOf t) ++ replicate (6 - n) 32 = six-bytes t ∙ ap (λ (j : ℕ). part j 0 (bytesOf t)) (sym m) ∙ part-append n (6 - n) 0 (bytesOf t) ∙ ap (λ (r : List ℕ). part n 0 (bytesOf t) ++ r) (behind n (bytesOf t) _ w) in
-      (rw e (padded-full n (part n 0 (bytesOf t)) (length-part n 0 (bytesOf t))), sym (text-padded (part n 0 (bytesOf t)) (6 - n)) ∙ ap textOf (sym q) ∙ text-again t))
+      (rw e (with-blanks-full n (part n 0 (bytesOf t)) (length-part n 0 (bytesOf t))), sym (text-with-blanks (part n 0 (bytesOf t)) (6 - n)) ∙ ap textOf (sym q) ∙ text-again t))
       (λ e. unsound n (rw e at s))
 
   pub text-field : Field n textOf (textBytes n) (λ f. length f ≡ n)
@@ -118,18 +118,18 @@ module _ (n : ℕ) (h : 1 ≤ n) (k : n ≤ 6) where
   word-short word.Absent = omega arith
   word-short (word.Is t) = split (blank (bytesOf t)) (λ e. rw e h) (λ e. rw e (text-short t))
 
-  word-back : (f : List ℕ) → length f ≡ n → padded n (wordBytes n (wordOf f)) ≡ f
+  word-back : (f : List ℕ) → length f ≡ n → withBlanks n (wordBytes n (wordOf f)) ≡ f
   unfolding wordBytes wordOf
   word-back f l =
-      split (blank f) (λ e. rw e (padded-none n ∙ sym (blank-means f e ∙ ap (λ (m : ℕ). replicate m 32) l)))
+      split (blank f) (λ e. rw e (with-blanks-none n ∙ sym (blank-means f e ∙ ap (λ (m : ℕ). replicate m 32) l)))
       (λ e. let b : blank (bytesOf (textOf f)) ≡ false = six f (omega arith) .same-blank ∙ e in rw (e, b) (text-back f l))
 
-  word-there : (v : Word) → Sound (padded n (wordBytes n v)) → wordOf (padded n (wordBytes n v)) ≡ v
+  word-there : (v : Word) → Sound (withBlanks n (wordBytes n v)) → wordOf (withBlanks n (wordBytes n v)) ≡ v
   unfolding wordBytes wordOf
-  word-there word.Absent s = rw (padded-none n, blank-replicate)
+  word-there word.Absent s = rw (with-blanks-none n, blank-replicate)
   word-there (word.Is t) s = split (blank (bytesOf t)) (λ e. unsound n (rw e at s)) (λ e. rw e (is e (rw e at s)))
     where
-      is : blank (bytesOf t) ≡ false → Sound (padded n (textBytes n t)) → wordOf (padded n (textBytes n t)) ≡ word.Is t
+      is : blank (bytesOf t) ≡ false → Sound (withBlanks n (textBytes n t)) → wordOf (withBlanks n (textBytes n t)) ≡ word.Is t
       is e s =
           let f : List ℕ = part n 0 (bytesOf t) in
           let w = text-held t s in
@@ -147,14 +147,14 @@ unfolding letterBytes
 letter-short letter.Absent = omega arith
 letter-short (letter.Is b) = split (eqb b 32) (λ e. rw e (omega arith)) (λ e. rw e (omega arith))
 
-letter-back : (f : List ℕ) → length f ≡ 1 → padded 1 (letterBytes (letterOf f)) ≡ f
-unfolding letterBytes letterOf padded blank
+letter-back : (f : List ℕ) → length f ≡ 1 → withBlanks 1 (letterBytes (letterOf f)) ≡ f
+unfolding letterBytes letterOf withBlanks blank
 letter-back [] l = absurd (omega arith)
 letter-back (b ∷ []) l = split (eqb b 32) (λ e. let q : b ≡ 32 = eqb-true b 32 e in rw q) (λ e. rw (e, e))
 letter-back (b ∷ (c ∷ f)) l = absurd (omega arith)
 
-letter-there : (v : Letter) → Sound (padded 1 (letterBytes v)) → letterOf (padded 1 (letterBytes v)) ≡ v
-unfolding letterBytes letterOf padded blank
+letter-there : (v : Letter) → Sound (withBlanks 1 (letterBytes v)) → letterOf (withBlanks 1 (letterBytes v)) ≡ v
+unfolding letterBytes letterOf withBlanks blank
 letter-there letter.Absent s = refl
 letter-there (letter.Is b) s = split (eqb b 32) (λ e. absurd ((rw e at s) refl)) (λ e. rw (e, e))
 

@@ -6,7 +6,7 @@ use mathlib.Core.List.{List, [], _∷_, _++_}
 use Rattle.slices.specs.Part.{part}
 use Rattle.columns.specs.Rows.{byteIn}
 use Rattle.columns.specs.Words.{columns}
-use Rattle.fields.specs.Pieces.{Piece, held, piece, putAll, blanks}
+use Rattle.fields.specs.Pieces.{Piece, orZero, piece, putAll, blanks}
 use Rattle.fields.specs.Text.{letterOf, letterBytes}
 use Rattle.fields.specs.Head.{continues, headOf, headPieces, tailOf, tailPieces}
 use Rattle.fields.specs.declared.continuation.Continuation.{Continuation}
@@ -19,7 +19,7 @@ contentOf rec = columns 41 123 rec
 
 unfoldable pub applicationPieces : Continuation → List ℕ → List Piece
 applicationPieces c content =
-    piece 39 1 (held (continues (c .number)) (c .number ∷ [])) ∷
+    piece 39 1 (orZero (continues (c .number)) (c .number ∷ [])) ∷
     piece 40 1 (letterBytes (c .application)) ∷
     piece 41 83 (part 83 0 content) ∷
     []

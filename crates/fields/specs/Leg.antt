@@ -7,7 +7,7 @@ use mathlib.Core.List.{List, [], _∷_, _++_}
 use Rattle.columns.specs.Rows.{byteIn}
 use Rattle.columns.specs.Words.{columns}
 use Rattle.leg.specs.Terminator.{terminatorOf, nameOf, isHolding}
-use Rattle.fields.specs.Pieces.{Piece, held, piece, gap, putAll, blanks}
+use Rattle.fields.specs.Pieces.{Piece, orZero, piece, gap, putAll, blanks}
 use Rattle.fields.specs.Text.{wordOf, wordBytes, letterOf, letterBytes}
 use Rattle.fields.specs.Turn.{turnOf, turnBytes}
 use Rattle.fields.specs.Quantities.{
@@ -90,7 +90,7 @@ legOf rec = record {
 -- columns 39 to 56: what the leg is
 unfoldable pub pathPieces : Leg → List Piece
 pathPieces g =
-    piece 39 1 (held (not (continues (g .continuation))) (g .continuation ∷ [])) ∷  -- 2 and on number a continuation
+    piece 39 1 (orZero (not (continues (g .continuation))) (g .continuation ∷ [])) ∷  -- 2 and on number a continuation
     piece 40 1 (g .description .0 ∷ []) ∷
     piece 41 1 (g .description .1 ∷ []) ∷
     piece 42 1 (g .description .2 ∷ []) ∷

@@ -3,7 +3,7 @@
 use Prim.Native.Nat.{ℕ, zero, suc, _+_, _^_, _/_, _%_}
 use mathlib.Core.List.{List, [], _∷_, _++_}
 use lib.Dec.{ltb}
-use Rattle.fields.specs.Pieces.{held}
+use Rattle.fields.specs.Pieces.{orZero}
 
 -- the n digits of a number below 10 to the n, the most significant first
 unfoldable pub digitsOf : ℕ → ℕ → List ℕ
@@ -12,7 +12,7 @@ digitsOf (suc n) v = (48 + v / 10 ^ n) ∷ digitsOf n (v % 10 ^ n)
 
 -- n digits, with a mark before them or behind them
 unfoldable pub marked : List ℕ → ℕ → List ℕ → ℕ → List ℕ
-marked before n after v = held (ltb v (10 ^ n)) (before ++ (digitsOf n v ++ after))
+marked before n after v = orZero (ltb v (10 ^ n)) (before ++ (digitsOf n v ++ after))
 
 abbrev pub numeral : ℕ → ℕ → List ℕ
 numeral n v = marked [] n [] v

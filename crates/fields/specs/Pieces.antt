@@ -22,12 +22,12 @@ abbrev pub gap : ℕ → ℕ → Piece
 gap c w = piece c w []
 
 -- what stands for a content that its columns can't hold: byte 0, which is legal nowhere
-abbrev pub held : Bool → List ℕ → List ℕ
-held fine bs = cond fine bs (0 ∷ [])
+abbrev pub orZero : Bool → List ℕ → List ℕ
+orZero fine bs = cond fine bs (0 ∷ [])
 
 -- the bytes, and blanks up to a width
-unfoldable pub padded : ℕ → List ℕ → List ℕ
-padded w bs = bs ++ replicate (w - length bs) 32
+unfoldable pub withBlanks : ℕ → List ℕ → List ℕ
+withBlanks w bs = bs ++ replicate (w - length bs) 32
 
 -- bytes put over what is there, from a place on
 unfoldable pub put : ℕ → List ℕ → List ℕ → List ℕ
@@ -49,4 +49,4 @@ Placed from (p ∷ ps) end = (p .column ≡ from) × (length (p .bytes) ≤ p .w
 -- in the columns of each piece the record holds its bytes, and then blanks
 abbrev pub Holds : List ℕ → List Piece → Type 0
 Holds rec [] = Unit {0}
-Holds rec (p ∷ ps) = (part (p .width) (p .column - 1) rec ≡ padded (p .width) (p .bytes)) × Holds rec ps
+Holds rec (p ∷ ps) = (part (p .width) (p .column - 1) rec ≡ withBlanks (p .width) (p .bytes)) × Holds rec ps

@@ -6,7 +6,7 @@ use mathlib.Core.List.{List, [], _∷_}
 use lib.Dec.{eqb}
 use lib.ListN.{getD}
 use Rattle.slices.specs.Part.{part, blank}
-use Rattle.fields.specs.Pieces.{held}
+use Rattle.fields.specs.Pieces.{orZero}
 use Rattle.fields.specs.declared.text.Text.{Text}
 use Rattle.fields.specs.declared.text.Word.{Word}
 use Rattle.fields.specs.declared.text.Word.the-variants as word
@@ -22,7 +22,7 @@ textOf f = record { 0 = getD f 0 32; 1 = getD f 1 32; 2 = getD f 2 32; 3 = getD 
 
 -- the first n of the six; the field can't hold a text that is longer
 unfoldable pub textBytes : ℕ → Text → List ℕ
-textBytes n t = held (blank (part (6 - n) n (bytesOf t))) (part n 0 (bytesOf t))
+textBytes n t = orZero (blank (part (6 - n) n (bytesOf t))) (part n 0 (bytesOf t))
 
 unfoldable pub wordOf : List ℕ → Word
 wordOf f = cond (blank f) word.Absent (word.Is (textOf f))

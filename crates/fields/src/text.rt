@@ -4,7 +4,7 @@ ghost use mathlib.Core.Path.{_≡_};
 ghost use mathlib.Core.List.{[], _∷_};
 ghost use Prim.Native.Nat.{_≤_};
 ghost use lib.ListN.{getD};
-ghost use Rattle.fields.specs.Pieces.{held, put};
+ghost use Rattle.fields.specs.Pieces.{orZero, put};
 ghost use Rattle.slices.specs.Part.{part};
 ghost use Rattle.fields.specs.Text.{textOf, textBytes, wordOf, wordBytes, letterOf, letterBytes};
 use slices::byte_after;
@@ -29,7 +29,7 @@ pub enum Letter {
 }
 
 // A byte of a field of `width` columns, and a blank past it.
-fn padded_byte(rec: &[u8], at: usize, width: usize, k: usize) -> u8
+fn byte_or_blank(rec: &[u8], at: usize, width: usize, k: usize) -> u8
     ensures { λ r. ⌜ r ≡ getD (part width at (now (rec .entry))) k 32 ⌝ }
 {
     if k < width {
@@ -48,7 +48,7 @@ pub(crate) fn put_byte(out: &mut [u8], at: usize, b: u8)
 
 // Puts a byte that is right in its column; one that is not leaves a byte 0, which is legal nowhere.
 pub(crate) fn put_if(out: &mut [u8], at: usize, right: bool, b: u8)
-    ensures { λ _. ⌜ now (out .exit) ≡ put at (held right (b ∷ [])) (now (out .entry)) ⌝ }
+    ensures { λ _. ⌜ now (out .exit) ≡ put at (orZero right (b ∷ [])) (now (out .entry)) ⌝ }
 {
     if right {
         put_byte(&mut *out, at, b);
@@ -63,12 +63,12 @@ impl Text {
         ensures { λ r. ⌜ r ≡ textOf (part width at (now (rec .entry))) ⌝ }
     {
         Text(
-            padded_byte(rec, at, width, 0),
-            padded_byte(rec, at, width, 1),
-            padded_byte(rec, at, width, 2),
-            padded_byte(rec, at, width, 3),
-            padded_byte(rec, at, width, 4),
-            padded_byte(rec, at, width, 5),
+            byte_or_blank(rec, at, width, 0),
+            byte_or_blank(rec, at, width, 1),
+            byte_or_blank(rec, at, width, 2),
+            byte_or_blank(rec, at, width, 3),
+            byte_or_blank(rec, at, width, 4),
+            byte_or_blank(rec, at, width, 5),
         )
     }
 

@@ -22,7 +22,7 @@ use Rattle.refusals.specs.Table.{fieldContent, companionBlank, neededBlank}
 use Rattle.refusals.specs.declared.Refusal.{Refusal}
 use Rattle.refusals.specs.declared.Verdict.{Verdict}
 use Rattle.refusals.specs.declared.Verdict.the-variants.{Accepted, Refused}
-use Rattle.leg.specs.Terminator.{terminatorOf, inOrder, nameOf, numberOf, needed}
+use Rattle.leg.specs.Terminator.{terminatorOf, inOrder, nameOf, terminatorNumber, needed}
 use Rattle.leg.specs.declared.terminator.Terminator.{Terminator}
 use Rattle.leg.specs.Stages.{oddOne, missing, asks, companionColumn, neededOf, neededColumn}
 use Rattle.leg.specs.Judge.{stage, judgedLeg, byKind, judged}
@@ -88,8 +88,8 @@ asks-iff t c = member-iff (code c) (needed t)
 
 -- ---- the stages
 
-nothing : (_≡_ {A = ℕ} 0 0) ↔ Unit {0}
-nothing = (λ _. tt, λ _. refl)
+none-left : (_≡_ {A = ℕ} 0 0) ↔ Unit {0}
+none-left = (λ _. tt, λ _. refl)
 
 module _ (rec : List ℕ) where
   companions-iff : (companionColumn rec ≡ 0)
@@ -102,7 +102,7 @@ module _ (rec : List ℕ) where
       odd-iff (columns 30 34 rec) (columns 35 36 rec) (columns 37 37 rec) 30 35 37 _ (omega arith) (omega arith) (omega arith)
       (odd-iff (columns 51 54 rec) (columns 55 56 rec) (columns 79 79 rec) 51 55 79 _ (omega arith) (omega arith) (omega arith)
       (odd-iff (columns 107 111 rec) (columns 113 114 rec) (columns 115 115 rec) 107 113 115 0 (omega arith) (omega arith) (omega arith)
-      nothing))
+      none-left))
 
   module _ (t : Terminator) (b : Bool) (B : Type 0) (hb : (b ≡ true) ↔ B) where
     asked : (c : Char) (f : List ℕ) (at rest : ℕ) {R : Type 0} → 1 ≤ at → (rest ≡ 0) ↔ R → (missing (asks t c) f at rest ≡ 0) ↔ ((Needs t c → Filled f) × R)
@@ -123,7 +123,7 @@ module _ (rec : List ℕ) where
         (missing-iff (asks t "A" || b) (columns 85 89 rec) 85 _ (omega arith) (or-iff (asks t "A") b (asks-iff t "A") hb)
         (missing-iff b (columns 90 94 rec) 90 _ (omega arith) hb
         (asked "O" (columns 107 111 rec) 107 0 (omega arith)
-        nothing))))))))))) (
+        none-left))))))))))) (
           λ (fix, (turn, (navaid, (arcRadius, (theta, (rho, (course, (distance, (altitude, (second, (centreFix, _))))))))))). (
             record {
               fix = fix;
@@ -147,7 +147,7 @@ module _ (rec : List ℕ) where
 
 -- a name of the list is the name of a terminator
 names-are : texts terminators ≡ map nameOf inOrder
-unfolding terminators texts codes nameOf numberOf inOrder
+unfolding terminators texts codes nameOf terminatorNumber inOrder
 names-are = refl
 
 named : (ts : List Terminator) (f : List ℕ) → List·Memᴰ f (map nameOf ts) → (t : Terminator) × (f ≡ nameOf t)

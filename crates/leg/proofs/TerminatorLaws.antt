@@ -17,7 +17,7 @@ use Rattle.slices.proofs.Cases.{split}
 use Rattle.slices.proofs.PartLaws.{getD-any, member-append, member-replicate}
 use Rattle.columns.specs.Patterns.{codes, texts}
 use Rattle.columns.specs.Terminators.{terminators}
-use Rattle.leg.specs.Terminator.{inOrder, numberOf, nameOf, terminatorAt, terminatorOf, pairs, needs, needed, among, endsAtFix, isHolding}
+use Rattle.leg.specs.Terminator.{inOrder, terminatorNumber, nameOf, terminatorAt, terminatorOf, pairs, needs, needed, among, endsAtFix, isHolding}
 use Rattle.leg.specs.declared.terminator.Terminator.{Terminator}
 use Rattle.leg.specs.declared.terminator.Terminator.the-variants.{Af, Ca, Cd, Cf, Ci, Cr, Df, Fa, Fc, Fd, Fm, Ha, Hf, Hm, If, Pi, Rf, Tf, Va, Vd, Vi, Vm, Vr}
 
@@ -37,25 +37,25 @@ abbrev flag : Bool → ℕ
 flag b = cond b 49 48
 
 unfoldable pub endsTable : List ℕ
-unfolding inOrder endsAtFix among nameOf numberOf texts codes terminators equal order
+unfolding inOrder endsAtFix among nameOf terminatorNumber texts codes terminators equal order
 endsTable = map (λ t. flag (endsAtFix t)) inOrder
 
 unfoldable pub holdingsTable : List ℕ
-unfolding inOrder isHolding among nameOf numberOf texts codes terminators equal order
+unfolding inOrder isHolding among nameOf terminatorNumber texts codes terminators equal order
 holdingsTable = map (λ t. flag (isHolding t)) inOrder
 
 -- what they hold of one terminator, and its name read back
 pub record RowOf (t : Terminator) : Type 0 where
-  pub its-needs : part 8 (numberOf t * 8) neededTable ≡ eight (needed t)
+  pub its-needs : part 8 (terminatorNumber t * 8) neededTable ≡ eight (needed t)
   pub its-letters : member 32 (needed t) ≡ false
-  pub its-end : eqb (getD endsTable (numberOf t) 0) 49 ≡ endsAtFix t
-  pub its-holding : eqb (getD holdingsTable (numberOf t) 0) 49 ≡ isHolding t
+  pub its-end : eqb (getD endsTable (terminatorNumber t) 0) 49 ≡ endsAtFix t
+  pub its-holding : eqb (getD holdingsTable (terminatorNumber t) 0) 49 ≡ isHolding t
   pub its-name : terminatorOf (nameOf t) ≡ t
   pub its-width : length (nameOf t) ≡ 2
   pub its-letter : eqb (getD (nameOf t) 0 0) (code "H") ≡ isHolding t
 
 pub row-of : (t : Terminator) → RowOf t
-unfolding neededTable endsTable holdingsTable numberOf part member terminatorOf terminatorAt firstAt
+unfolding neededTable endsTable holdingsTable terminatorNumber part member terminatorOf terminatorAt firstAt
 row-of Af = record { its-needs = refl; its-letters = refl; its-end = refl; its-holding = refl; its-name = refl; its-width = refl; its-letter = refl }
 row-of Ca = record { its-needs = refl; its-letters = refl; its-end = refl; its-holding = refl; its-name = refl; its-width = refl; its-letter = refl }
 row-of Cd = record { its-needs = refl; its-letters = refl; its-end = refl; its-holding = refl; its-name = refl; its-width = refl; its-letter = refl }
@@ -81,7 +81,7 @@ row-of Vm = record { its-needs = refl; its-letters = refl; its-end = refl; its-h
 row-of Vr = record { its-needs = refl; its-letters = refl; its-end = refl; its-holding = refl; its-name = refl; its-width = refl; its-letter = refl }
 
 -- a letter is needed exactly when it is no blank and stands in the row of the table
-pub row-needs : (t : Terminator) (b : ℕ) → (not (eqb b 32) && member b (part 8 (numberOf t * 8) neededTable)) ≡ member b (needed t)
+pub row-needs : (t : Terminator) (b : ℕ) → (not (eqb b 32) && member b (part 8 (terminatorNumber t * 8) neededTable)) ≡ member b (needed t)
 row-needs t b =
     split (eqb b 32) (λ e. let q : b ≡ 32 = eqb-true b 32 e in rw q (sym (row-of t .its-letters)))
     (λ e.
@@ -115,11 +115,11 @@ getD-pairs t (suc n) p zero h = let e : p + 0 * 2 ≡ p = omega arith in rw e
 getD-pairs t (suc n) p (suc i) h = let e : p + 2 + i * 2 ≡ p + suc i * 2 = omega arith in getD-pairs t n (p + 2) i (le-of-suc-le-suc h) ∙ rw e
 
 -- the name of a terminator, as the code has it
-pub name-at : (t : Terminator) → numberOf t < 23 → part 2 (numberOf t * 2) namesTable ≡ nameOf t
+pub name-at : (t : Terminator) → terminatorNumber t < 23 → part 2 (terminatorNumber t * 2) namesTable ≡ nameOf t
 unfolding nameOf
 name-at t h =
-    let e : 0 + numberOf t * 2 ≡ numberOf t * 2 = omega arith in
-    sym (ap (λ (ps : List (List ℕ)). getD ps (numberOf t) []) names-tied ∙ getD-pairs namesTable 23 0 (numberOf t) h ∙ rw e)
+    let e : 0 + terminatorNumber t * 2 ≡ terminatorNumber t * 2 = omega arith in
+    sym (ap (λ (ps : List (List ℕ)). getD ps (terminatorNumber t) []) names-tied ∙ getD-pairs namesTable 23 0 (terminatorNumber t) h ∙ rw e)
 
 -- the test that the search makes at one place
 pub name-test : (t rec : List ℕ) (at i : ℕ) → at ≡ 47 → i < 23 → {r : Bool} → r ≡ equal (part 2 at rec) (part 2 (i * 2) t)

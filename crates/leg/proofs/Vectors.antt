@@ -14,7 +14,7 @@ use Rattle.columns.specs.Patterns.{fitsAll}
 use Rattle.columns.specs.Rows.{stands, matches, firstOf}
 use Rattle.columns.specs.Layout.{primary, continuation}
 use Rattle.columns.specs.Kinds.{kindOf, layoutOf, firstBadField}
-use Rattle.columns.proofs.Vectors.{_at_is_, approach, notes}
+use Rattle.columns.specs.Samples.{_at_is_, approach, full, notes}
 use Rattle.refusals.specs.Table.{refusal, stated}
 use Rattle.refusals.specs.declared.Refusal.{Refusal}
 use Rattle.leg.specs.Terminator.{inOrder, terminatorAt, terminatorOf, needs, needed}
@@ -39,10 +39,6 @@ expected v = cond (eqb (v .number) 0) (refusal 0 0 0) (refusal (v .number) 7 (v 
 right : List Vector → Bool
 right [] = true
 right (v ∷ vs) = same (stated (judged 7 (v .content))) (expected v) && right vs
-
--- a leg with every field filled
-full : List ℕ
-full = approach at 44 is "L" at 45 is "010" at 57 is "001500" at 90 is "03000" at 107 is "CF16R" at 113 is "K1P"
 
 vectors : List Vector
 vectors =

@@ -17,33 +17,33 @@ use Rattle.leg.specs.declared.terminator.Terminator.the-variants.{Af, Ca
 unfoldable pub inOrder : List Terminator
 inOrder = Af ∷ Ca ∷ Cd ∷ Cf ∷ Ci ∷ Cr ∷ Df ∷ Fa ∷ Fc ∷ Fd ∷ Fm ∷ Ha ∷ Hf ∷ Hm ∷ If ∷ Pi ∷ Rf ∷ Tf ∷ Va ∷ Vd ∷ Vi ∷ Vm ∷ Vr ∷ []
 
-unfoldable pub numberOf : Terminator → ℕ
-numberOf Af = 0
-numberOf Ca = 1
-numberOf Cd = 2
-numberOf Cf = 3
-numberOf Ci = 4
-numberOf Cr = 5
-numberOf Df = 6
-numberOf Fa = 7
-numberOf Fc = 8
-numberOf Fd = 9
-numberOf Fm = 10
-numberOf Ha = 11
-numberOf Hf = 12
-numberOf Hm = 13
-numberOf If = 14
-numberOf Pi = 15
-numberOf Rf = 16
-numberOf Tf = 17
-numberOf Va = 18
-numberOf Vd = 19
-numberOf Vi = 20
-numberOf Vm = 21
-numberOf Vr = 22
+unfoldable pub terminatorNumber : Terminator → ℕ
+terminatorNumber Af = 0
+terminatorNumber Ca = 1
+terminatorNumber Cd = 2
+terminatorNumber Cf = 3
+terminatorNumber Ci = 4
+terminatorNumber Cr = 5
+terminatorNumber Df = 6
+terminatorNumber Fa = 7
+terminatorNumber Fc = 8
+terminatorNumber Fd = 9
+terminatorNumber Fm = 10
+terminatorNumber Ha = 11
+terminatorNumber Hf = 12
+terminatorNumber Hm = 13
+terminatorNumber If = 14
+terminatorNumber Pi = 15
+terminatorNumber Rf = 16
+terminatorNumber Tf = 17
+terminatorNumber Va = 18
+terminatorNumber Vd = 19
+terminatorNumber Vi = 20
+terminatorNumber Vm = 21
+terminatorNumber Vr = 22
 
 unfoldable pub nameOf : Terminator → List ℕ
-nameOf t = getD (texts terminators) (numberOf t) []
+nameOf t = getD (texts terminators) (terminatorNumber t) []
 
 unfoldable pub terminatorAt : ℕ → Terminator
 terminatorAt n = getD inOrder n Vr

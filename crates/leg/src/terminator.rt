@@ -5,7 +5,7 @@ ghost use lib.Seq.{sets};
 ghost use Rattle.slices.specs.Part.{part, member};
 ghost use Rattle.slices.specs.Order.{equal};
 ghost use Rattle.slices.specs.Search.{firstAt};
-ghost use Rattle.leg.specs.Terminator.{pairs, numberOf, nameOf, terminatorAt, terminatorOf, needed, endsAtFix, isHolding};
+ghost use Rattle.leg.specs.Terminator.{pairs, terminatorNumber, nameOf, terminatorAt, terminatorOf, needed, endsAtFix, isHolding};
 use slices::copy;
 use slices::has;
 use slices::same;
@@ -98,7 +98,7 @@ impl Terminator {
 
     // Its place in the order of the 23, from 0 on.
     pub fn number(self) -> usize
-        ensures { λ r. ⌜ (r ≡ numberOf self) × (r < 23) ⌝ }
+        ensures { λ r. ⌜ (r ≡ terminatorNumber self) × (r < 23) ⌝ }
     {
         match self {
             Terminator::Af => 0,

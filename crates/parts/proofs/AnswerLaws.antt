@@ -18,7 +18,7 @@ use Rattle.refusals.specs.declared.Refusal.{Refusal}
 use Rattle.refusals.specs.declared.Verdict.{Verdict}
 use Rattle.refusals.specs.declared.Verdict.the-variants.{Accepted, Refused}
 use Rattle.leg.specs.Judge.{stage, judged}
-use Rattle.parts.specs.Record.{sizeColumn, columnsOf, alone, nothing, legReading, continuationReading, readingByKind, readingOf, writing, writtenBy, written}
+use Rattle.parts.specs.Record.{sizeColumn, columnsOf, alone, refusedReading, legReading, continuationReading, readingByKind, readingOf, writing, writtenBy, written}
 use Rattle.parts.specs.declared.Reading.{Reading}
 
 -- ---- the size of one record alone
@@ -59,7 +59,7 @@ module _ (rec : List ℕ) {k : Kind} (e : k ≡ kindOf rec) {x : Reading} where
   answer-continuation h f = rw (← e, h) f
 
 module _ (s : List ℕ) {n : ℕ} {x : Reading} (e : n ≡ sizeColumn s) where
-  pub answer-cut : (n ≡ 0 → ⊥) → x ≡ nothing (Refused (cutShort 1 n)) → x ≡ readingOf s
+  pub answer-cut : (n ≡ 0 → ⊥) → x ≡ refusedReading (cutShort 1 n) → x ≡ readingOf s
   unfolding readingOf alone stage
   answer-cut h f = f ∙ rw (← e, ne-eqb n 0 h)
 
@@ -68,7 +68,7 @@ module _ (s : List ℕ) {n : ℕ} {x : Reading} (e : n ≡ sizeColumn s) where
     unfolding readingOf alone stage
     answer-accepted h f = f ∙ rw (← e, z, ← j, h)
 
-    pub answer-refused : {r : Refusal} → v ≡ Refused r → x ≡ nothing (Refused r) → x ≡ readingOf s
+    pub answer-refused : {r : Refusal} → v ≡ Refused r → x ≡ refusedReading r → x ≡ readingOf s
     unfolding readingOf alone stage
     answer-refused h f = f ∙ rw (← e, z, ← j, h)
 

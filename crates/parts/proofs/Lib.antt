@@ -1,4 +1,4 @@
 -- The laws of the crate; what is promised stands in Theorems.
 mod AnswerLaws
 pub mod Theorems
-pub mod Vectors
+mod Vectors

@@ -28,7 +28,8 @@ use Rattle.leg.specs.Legal.{LegalLeg, Legal}
 use Rattle.leg.proofs.Legality.{accepted-iff, stage-iff}
 use Rattle.fields.specs.Leg.{legOf, legPieces, renderLeg}
 use Rattle.fields.specs.Continuation.{continuationOf, contentOf, continuationPieces, renderContinuation}
-use Rattle.parts.specs.Record.{sizeColumn, columnsOf, alone, nothing, readingBy, readingByKind, legReading, continuationReading, readingOf, writing, writtenBy, written}
+use Rattle.parts.specs.Record.{sizeColumn, columnsOf, alone, refusedReading, readingBy, readingByKind, legReading, continuationReading, readingOf, writing, writtenBy, written}
+use Rattle.parts.specs.Given.{Alone, LegGiven, ContinuationGiven}
 use Rattle.fields.specs.declared.primary.Leg.{Leg}
 use Rattle.fields.specs.declared.continuation.Continuation.{Continuation}
 use Rattle.parts.specs.declared.Parts.the-variants as parts
@@ -62,13 +63,6 @@ length-continuation c content = length-made (continuationPieces c content)
 writing-iff : (n : ℕ) (rec : List ℕ) → 133 ≤ n → (writing n rec ≡ Accepted) ↔ Legal rec
 unfolding writing
 writing-iff n rec h = rw (le-ltb n 133 h) (accepted-iff rec 0)
-
--- a legal record that has these parts
-abbrev pub LegGiven : Leg → List ℕ → Type 0
-LegGiven g rec = (length rec ≡ 132) × LegalLeg rec × (legOf rec ≡ g)
-
-abbrev pub ContinuationGiven : Continuation → List ℕ → List ℕ → Type 0
-ContinuationGiven c content rec = (length rec ≡ 132) × ContinuationContent rec × (continuationOf rec ≡ c) × (contentOf rec ≡ content)
 
 legal-leg : (g : Leg) → Legal (renderLeg g) → LegalLeg (renderLeg g)
 legal-leg g (inl h) = h
@@ -109,10 +103,6 @@ unfolding writing writtenBy
 no-room n rec h = rw (lt-ltb n 133 h) (refl, refl)
 
 -- ---- what is read
-
--- one record alone: 132 columns and a line feed
-abbrev pub Alone : List ℕ → List ℕ → Type 0
-Alone rec s = (length rec ≡ 132) × (s ≡ rec ++ (10 ∷ []))
 
 -- 133 bytes of which the last is a line feed
 exactly : (s : List ℕ) → length s ≡ 133 → getD s 132 0 ≡ 10 → Alone (columnsOf s) s
@@ -198,7 +188,7 @@ continuation-written-read c content n k h e =
 
 -- the verdict of a reading is that of the record alone
 pub reading-verdict : (s : List ℕ) → readingOf s .verdict ≡ alone s
-unfolding readingOf nothing legReading continuationReading
+unfolding readingOf refusedReading legReading continuationReading
 reading-verdict s = by (alone s)
   where
     kinds : (k : Kind) (rec : List ℕ) → readingByKind k rec .verdict ≡ Accepted

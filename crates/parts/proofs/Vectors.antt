@@ -1,19 +1,15 @@
--- A legal leg with every field filled; and worked vectors of the size of one record read alone, by evaluation.
+-- Worked vectors of the size of one record read alone, by evaluation.
 -- Assumes nothing.
 use mathlib.Core.Path.{_≡_, refl}
 use mathlib.Core.List.{List, [], _∷_, _++_}
 use Prim.Native.Nat.{ℕ}
 use Rattle.slices.specs.Part.{part}
 use Rattle.columns.specs.Patterns.{codes}
-use Rattle.columns.proofs.Vectors.{_at_is_, approach}
+use Rattle.columns.specs.Samples.{_at_is_, approach, full}
 use Rattle.refusals.specs.Table.{refusal}
 use Rattle.refusals.specs.declared.Verdict.the-variants.{Refused}
 use Rattle.leg.specs.Judge.{stage}
 use Rattle.parts.specs.Record.{sizeColumn, alone}
-
--- a leg with every field filled
-unfoldable pub full : List ℕ
-full = approach at 44 is "L" at 45 is "010" at 57 is "001500" at 90 is "03000" at 107 is "CF16R" at 113 is "K1P"
 
 -- a slice, and the column of refusal 1 at place 1
 abbrev SizeIs : List ℕ → ℕ → Type 0

@@ -1,2 +1,3 @@
 -- What the contracts of this crate cite, and what its theorems speak of.
 pub mod Record
+pub mod Given

@@ -9,6 +9,7 @@ use Rattle.columns.specs.Kinds.{kindOf}
 use Rattle.columns.specs.declared.Kind.{Kind}
 use Rattle.columns.specs.declared.Kind.the-variants as kind
 use Rattle.refusals.specs.Table.{cutShort, bufferTooShort}
+use Rattle.refusals.specs.declared.Refusal.{Refusal}
 use Rattle.refusals.specs.declared.Verdict.{Verdict}
 use Rattle.refusals.specs.declared.Verdict.the-variants.{Accepted, Refused}
 use Rattle.leg.specs.Judge.{stage, judged}
@@ -37,8 +38,8 @@ unfoldable pub alone : List ℕ → Verdict
 alone s = stage (sizeColumn s) (cutShort 1) (judged 1 (columnsOf s))
 
 -- what means nothing in an answer is 0
-unfoldable pub nothing : Verdict → Reading
-nothing v = record { verdict = v; parts = parts.Nothing; content = replicate 83 0 }
+unfoldable pub refusedReading : Refusal → Reading
+refusedReading r = record { verdict = Refused r; parts = parts.Nothing; content = replicate 83 0 }
 
 unfoldable pub legReading : List ℕ → Reading
 legReading rec = record { verdict = Accepted; parts = parts.Leg (legOf rec); content = replicate 83 0 }
@@ -52,7 +53,7 @@ readingByKind kind.Continuation rec = continuationReading rec
 
 abbrev pub readingBy : Verdict → List ℕ → Reading
 readingBy Accepted rec = readingByKind (kindOf rec) rec
-readingBy (Refused r) rec = nothing (Refused r)
+readingBy (Refused r) rec = refusedReading r
 
 unfoldable pub readingOf : List ℕ → Reading
 readingOf s = readingBy (alone s) (columnsOf s)

@@ -6,7 +6,7 @@ ghost use Rattle.columns.specs.Kinds.{kindOf};
 ghost use Rattle.refusals.specs.declared.Verdict.the-variants.{Refused};
 ghost use Rattle.fields.specs.Leg.{renderLeg};
 ghost use Rattle.fields.specs.Continuation.{renderContinuation};
-ghost use Rattle.parts.specs.Record.{sizeColumn, legReading, continuationReading, readingByKind, nothing, readingOf, writing, written};
+ghost use Rattle.parts.specs.Record.{sizeColumn, legReading, continuationReading, refusedReading, readingByKind, readingOf, writing, written};
 use columns::Kind;
 use fields::continuation::Continuation;
 use fields::continuation::content_of;
@@ -45,7 +45,7 @@ fn size_column(s: &[u8]) -> usize
 }
 
 fn refused(r: Refusal) -> Reading
-    ensures { λ x. ⌜ x ≡ nothing (Refused r) ⌝ }
+    ensures { λ x. ⌜ x ≡ refusedReading r ⌝ }
 {
     Reading {
         verdict: Verdict::Refused(r),

@@ -13,7 +13,7 @@ use Rattle.slices.proofs.OrderLaws.{equal-iff}
 use Rattle.columns.specs.Patterns.{codes, texts}
 use Rattle.columns.specs.Words.{columns, OneOf}
 use Rattle.columns.specs.Terminators.{terminators}
-use Rattle.leg.specs.Terminator.{numberOf, nameOf, among, endsAtFix}
+use Rattle.leg.specs.Terminator.{terminatorNumber, nameOf, among, endsAtFix}
 use Rattle.leg.specs.declared.terminator.Terminator.{Terminator}
 use Rattle.leg.specs.declared.terminator.Terminator.the-variants.{Af, Ca, Cd, Cf, Ci, Cr, Df, Fa, Fc, Fd, Fm, Ha, Hf, Hm, If, Pi, Rf, Tf, Va, Vd, Vi, Vm, Vr}
 use Rattle.leg.specs.Legal.{LegalLeg}
@@ -27,7 +27,7 @@ unfolding codes
 rules = codes "       FFFFFFFIFTT     "
 
 abbrev ruleOf : Terminator → ℕ
-ruleOf t = getD rules (numberOf t) 0
+ruleOf t = getD rules (terminatorNumber t) 0
 
 pub record RuleOf (t : Terminator) : Type 0 where
   pub its-first : not (eqb (ruleOf t) 84) ≡ not (neverFirst t)
@@ -35,7 +35,7 @@ pub record RuleOf (t : Terminator) : Type 0 where
   pub its-fix : (not (eqb (ruleOf t) 84) && not (eqb (ruleOf t) 70)) ≡ not (followsFix t)
 
 pub rule-of : (t : Terminator) → RuleOf t
-unfolding rules numberOf neverFirst onlyFirst followsFix among nameOf texts codes terminators equal order
+unfolding rules terminatorNumber neverFirst onlyFirst followsFix among nameOf texts codes terminators equal order
 rule-of Af = record { its-first = refl; its-only = refl; its-fix = refl }
 rule-of Ca = record { its-first = refl; its-only = refl; its-fix = refl }
 rule-of Cd = record { its-first = refl; its-only = refl; its-fix = refl }

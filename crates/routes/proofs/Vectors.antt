@@ -17,10 +17,10 @@ use Rattle.columns.specs.Rows.{stands, matches, firstOf}
 use Rattle.columns.specs.Layout.{primary, continuation}
 use Rattle.columns.specs.Terminators.{terminators}
 use Rattle.columns.specs.Kinds.{kindOf, layoutOf, firstBadField}
-use Rattle.columns.proofs.Vectors.{_at_is_, approach, notes}
+use Rattle.columns.specs.Samples.{_at_is_, approach, notes}
 use Rattle.refusals.specs.Table.{refusal, stated}
 use Rattle.refusals.specs.declared.Refusal.{Refusal}
-use Rattle.leg.specs.Terminator.{inOrder, terminatorAt, terminatorOf, numberOf, nameOf, needs, needed, among, endsAtFix}
+use Rattle.leg.specs.Terminator.{inOrder, terminatorAt, terminatorOf, terminatorNumber, nameOf, needs, needed, among, endsAtFix}
 use Rattle.leg.specs.Stages.{oddOne, missing, companionColumn, neededOf, neededColumn}
 use Rattle.leg.specs.Judge.{stage, judgedLeg, judged}
 use Rattle.routes.specs.InTurn.{inTurn}
@@ -94,5 +94,5 @@ vectors =
     []
 
 worked : right vectors ≡ true
-unfolding vectors right same leg continued _gives_at_column_ _then_ _at_is_ approach notes codes texts fileVerdict sizeStage tailStage tailColumn inTurn leading records walkFrom finished last judgedNext primaryAfter continuationStage continuationColumn numberAfter firstDifference awaits orderStage sequenceStage legStage legStands firstLeg pair onlyFirst neverFirst followsFix judged judgedLeg stage companionColumn oddOne neededColumn neededOf missing blank member terminatorOf terminatorAt inOrder numberOf nameOf among endsAtFix needed needs terminators firstAt equal order firstBadField layoutOf kindOf firstOf matches stands fitsAll fits part primary continuation
+unfolding vectors right same leg continued _gives_at_column_ _then_ _at_is_ approach notes codes texts fileVerdict sizeStage tailStage tailColumn inTurn leading records walkFrom finished last judgedNext primaryAfter continuationStage continuationColumn numberAfter firstDifference awaits orderStage sequenceStage legStage legStands firstLeg pair onlyFirst neverFirst followsFix judged judgedLeg stage companionColumn oddOne neededColumn neededOf missing blank member terminatorOf terminatorAt inOrder terminatorNumber nameOf among endsAtFix needed needs terminators firstAt equal order firstBadField layoutOf kindOf firstOf matches stands fitsAll fits part primary continuation
 worked = refl

@@ -20,6 +20,7 @@ use Rattle.fields.specs.Leg.{renderLeg}
 use Rattle.fields.specs.Continuation.{renderContinuation}
 use Rattle.fields.specs.declared.primary.Leg.{Leg}
 use Rattle.fields.specs.declared.continuation.Continuation.{Continuation}
+use Rattle.parts.specs.Given.{Alone, LegGiven, ContinuationGiven}
 use Rattle.parts.specs.Record.{readingOf, writing, written}
 use Rattle.parts.specs.declared.Parts.the-variants as read
 use Rattle.parts.proofs.Theorems as parts
@@ -108,7 +109,7 @@ pub file-accepted : (f : List ℕ) → (fileVerdict f ≡ Accepted) ↔ LegalFil
 file-accepted = routes.accepted-iff
 
 -- One record read alone is accepted exactly when it is a legal record of 132 columns and its line feed.
-pub record-accepted : (s : List ℕ) → (readingOf s .verdict ≡ Accepted) ↔ ((rec : List ℕ) × parts.Alone rec s × Legal rec)
+pub record-accepted : (s : List ℕ) → (readingOf s .verdict ≡ Accepted) ↔ ((rec : List ℕ) × Alone rec s × Legal rec)
 record-accepted = parts.reading-iff
 
 -- A log's text, beside so many frozen records, is accepted exactly when it is what paper 01 describes.
@@ -135,11 +136,11 @@ pub continuation-the-same : (s : List ℕ) (c : Continuation) (content : List �
 continuation-the-same = parts.continuation-read-written
 
 -- Parts are written exactly when some legal record gives them.
-pub leg-written : (g : Leg) (lent : ℕ) → 133 ≤ lent → (writing lent (renderLeg g) ≡ Accepted) ↔ ((rec : List ℕ) × parts.LegGiven g rec)
+pub leg-written : (g : Leg) (lent : ℕ) → 133 ≤ lent → (writing lent (renderLeg g) ≡ Accepted) ↔ ((rec : List ℕ) × LegGiven g rec)
 leg-written = parts.leg-written
 
 pub continuation-written : (c : Continuation) (content : List ℕ) (lent : ℕ) → length content ≡ 83 → 133 ≤ lent
-    → (writing lent (renderContinuation c content) ≡ Accepted) ↔ ((rec : List ℕ) × parts.ContinuationGiven c content rec)
+    → (writing lent (renderContinuation c content) ≡ Accepted) ↔ ((rec : List ℕ) × ContinuationGiven c content rec)
 continuation-written = parts.continuation-written
 
 -- ---- 3: "The right corrections, and nothing else."

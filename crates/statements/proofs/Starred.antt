@@ -13,14 +13,13 @@ use Rattle.columns.specs.Rows.{stands, matches, firstOf}
 use Rattle.columns.specs.Layout.{primary}
 use Rattle.columns.specs.Kinds.{kindOf, layoutOf, firstBadField}
 use Rattle.digits.specs.Digits.{value}
-use Rattle.columns.proofs.Vectors.{_at_is_, approach}
-use Rattle.leg.specs.Terminator.{inOrder, terminatorAt, terminatorOf, needs, needed, among, endsAtFix, isHolding, nameOf, numberOf}
+use Rattle.columns.specs.Samples.{_at_is_, approach, full}
+use Rattle.leg.specs.Terminator.{inOrder, terminatorAt, terminatorOf, needs, needed, among, endsAtFix, isHolding, nameOf, terminatorNumber}
 use Rattle.leg.specs.Stages.{oddOne, missing, companionColumn, neededOf, neededColumn}
 use Rattle.leg.specs.Judge.{stage, judgedLeg, judged}
 use Rattle.fields.specs.Quantities.{altitudeOf, distanceOf, feetOf}
 use Rattle.fields.specs.Leg.{legOf}
-use Rattle.parts.specs.Record.{sizeColumn, alone, nothing, legReading, readingOf}
-use Rattle.parts.proofs.Vectors.{full}
+use Rattle.parts.specs.Record.{sizeColumn, alone, refusedReading, legReading, readingOf}
 use Rattle.routes.specs.InTurn.{inTurn}
 use Rattle.routes.specs.Sources.{leading, records, recordAt, recordWithin, inUse, sourcesOf, sourcesFor, sourcesTo, starts}
 use Rattle.routes.specs.Pairs.{onlyFirst, neverFirst, followsFix, firstLeg, pair}
@@ -44,5 +43,5 @@ use Rattle.statements.specs.Starred.{Meets, starred, leg, only, frozen, 
 
 -- Every row is met. The definitions that the rows come down to are opened, so that they compute.
 pub cases : Every Meets starred
-unfolding starred full approach _at_is_ codes leg only frozen line replaced log lines readingOf legReading nothing alone sizeColumn legOf altitudeOf distanceOf feetOf isHolding value judged judgedLeg stage companionColumn oddOne neededColumn neededOf missing blank member part terminatorOf terminatorAt inOrder numberOf nameOf among endsAtFix needed needs firstAt equal order firstBadField layoutOf kindOf firstOf matches stands fitsAll fits primary fileVerdict sizeStage tailStage tailColumn inTurn leading records walked walkFrom finished last judgedNext primaryAfter continuationStage continuationColumn awaits orderStage sequenceStage legStage legStands firstLeg pair onlyFirst neverFirst followsFix bind pickOf opened lengthStage readLog read lineOf whole reach heading change digitsBy decimal wantedStage carried takenOf wants membersFrom leadingLines byCorrection ran corrected linesApplied lineApplied touched together touchedJudged withSource withoutRecord countBefore notBefore hasPlace isRecord putAt leftOut recordAt recordWithin inUse sourcesOf sourcesFor sourcesTo starts placeOf operation operations closureTo addRelied lastOn numbered add touches? routeOf same? ℕ-discrete
+unfolding starred full approach _at_is_ codes leg only frozen line replaced log lines readingOf legReading refusedReading alone sizeColumn legOf altitudeOf distanceOf feetOf isHolding value judged judgedLeg stage companionColumn oddOne neededColumn neededOf missing blank member part terminatorOf terminatorAt inOrder numberOf nameOf among endsAtFix needed needs firstAt equal order firstBadField layoutOf kindOf firstOf matches stands fitsAll fits primary fileVerdict sizeStage tailStage tailColumn inTurn leading records walked walkFrom finished last judgedNext primaryAfter continuationStage continuationColumn awaits orderStage sequenceStage legStage legStands firstLeg pair onlyFirst neverFirst followsFix bind pickOf opened lengthStage readLog read lineOf whole reach heading change digitsBy decimal wantedStage carried takenOf wants membersFrom leadingLines byCorrection ran corrected linesApplied lineApplied touched together touchedJudged withSource withoutRecord countBefore notBefore hasPlace isRecord putAt leftOut recordAt recordWithin inUse sourcesOf sourcesFor sourcesTo starts placeOf operation operations closureTo addRelied lastOn numbered add touches? routeOf same? ℕ-discrete
 cases = (refl, (refl, (refl, (refl, (refl, (refl, (refl, (refl, (refl, (refl, (refl, (refl, (refl, (refl, (refl, (refl, (refl, (refl, (refl, (refl, (refl, tt)))))))))))))))))))))

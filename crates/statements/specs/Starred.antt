@@ -10,7 +10,7 @@ use Prim.Native.String.{String}
 use lib.IntN.{ℤ, negsuc}
 use lib.ListN.{length}
 use Rattle.columns.specs.Patterns.{codes}
-use Rattle.columns.proofs.Vectors.{_at_is_, approach}
+use Rattle.columns.specs.Samples.{_at_is_, approach, full}
 use Rattle.refusals.specs.Table.{refusal}
 use Rattle.refusals.specs.declared.Verdict.{Verdict}
 use Rattle.refusals.specs.declared.Verdict.the-variants.{Accepted, Refused}
@@ -23,7 +23,6 @@ use Rattle.fields.specs.declared.quantities.Altitude.{Altitude}
 use Rattle.fields.specs.declared.quantities.Altitude.the-variants.{Level}
 use Rattle.fields.specs.declared.quantities.Distance.{Distance}
 use Rattle.fields.specs.declared.quantities.Distance.the-variants.{Minutes}
-use Rattle.parts.proofs.Vectors.{full}
 use Rattle.routes.specs.Files.{fileVerdict}
 use Rattle.routes.specs.Legal.{lines}
 use Rattle.selection.specs.Pick.{Pick, refusedBy, picked, pickOf}

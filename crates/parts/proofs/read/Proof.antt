@@ -1,12 +1,8 @@
 -- A law for each way that it returns. Assumes nothing.
 use Rattle.parts.proofs.AnswerLaws.{columns-count}
 use mathlib.Core.Path.{ap, _∙_}
-use Rattle.parts.specs.Record.{nothing}
-use Rattle.refusals.specs.declared.Verdict.the-variants.{Refused}
-use Rattle.refusals.specs.declared.Refusal.{Refusal}
-use mathlib.Core.Path.{ap, _∙_}
+use Rattle.parts.specs.Record.{refusedReading}
 use Rattle.parts.proofs.AnswerLaws.{answer-cut, answer-accepted, answer-refused}
-use mathlib.Core.Path.{_∙_}
 use borrow.Author.Needs.{needs}
 use Rattle.parts.proofs.read.Statement.{statement}
 use Rattle.parts.proofs.read.Tie as tie
@@ -21,7 +17,7 @@ refused-requires : tie.Need-refused-requires
 refused-requires c κs = search needs
 
 returns : tie.Need-returns
-returns c = answer-cut _ (c .before .before .before .size-column .ensures) (c .before .before .if1 .taken) (c .refused .ensures ∙ ap (λ (r : Refusal). nothing (Refused r)) (c .before .cut-short .ensures))
+returns c = answer-cut _ (c .before .before .before .size-column .ensures) (c .before .before .if1 .taken) (c .refused .ensures ∙ ap refusedReading (c .before .cut-short .ensures))
 
 slice-aggregate-rec : tie.Need-slice-aggregate-rec
 slice-aggregate-rec c = columns-count _ (c .before .before .size-column .ensures) (c .before .if1 .left)

@@ -1,6 +1,6 @@
 -- Each arm is its line of the definition. Assumes nothing.
 use borrow.Author.Needs.{needs}
-use Rattle.leg.specs.Terminator.{numberOf}
+use Rattle.leg.specs.Terminator.{terminatorNumber}
 use Rattle.leg.proofs.terminator.Terminator.number.Statement.{statement}
 use Rattle.leg.proofs.terminator.Terminator.number.Tie as tie
 
@@ -74,95 +74,95 @@ enum-told-23 : tie.Need-enum-told-23
 enum-told-23 c = search needs
 
 returns : tie.Need-returns
-unfolding numberOf
+unfolding terminatorNumber
 returns c = (rw (c .enum-told .given .1), search needs)
 
 returns-2 : tie.Need-returns-2
-unfolding numberOf
+unfolding terminatorNumber
 returns-2 c = (rw (c .enum-told2 .given .1), search needs)
 
 returns-3 : tie.Need-returns-3
-unfolding numberOf
+unfolding terminatorNumber
 returns-3 c = (rw (c .enum-told3 .given .1), search needs)
 
 returns-4 : tie.Need-returns-4
-unfolding numberOf
+unfolding terminatorNumber
 returns-4 c = (rw (c .enum-told4 .given .1), search needs)
 
 returns-5 : tie.Need-returns-5
-unfolding numberOf
+unfolding terminatorNumber
 returns-5 c = (rw (c .enum-told5 .given .1), search needs)
 
 returns-6 : tie.Need-returns-6
-unfolding numberOf
+unfolding terminatorNumber
 returns-6 c = (rw (c .enum-told6 .given .1), search needs)
 
 returns-7 : tie.Need-returns-7
-unfolding numberOf
+unfolding terminatorNumber
 returns-7 c = (rw (c .enum-told7 .given .1), search needs)
 
 returns-8 : tie.Need-returns-8
-unfolding numberOf
+unfolding terminatorNumber
 returns-8 c = (rw (c .enum-told8 .given .1), search needs)
 
 returns-9 : tie.Need-returns-9
-unfolding numberOf
+unfolding terminatorNumber
 returns-9 c = (rw (c .enum-told9 .given .1), search needs)
 
 returns-10 : tie.Need-returns-10
-unfolding numberOf
+unfolding terminatorNumber
 returns-10 c = (rw (c .enum-told10 .given .1), search needs)
 
 returns-11 : tie.Need-returns-11
-unfolding numberOf
+unfolding terminatorNumber
 returns-11 c = (rw (c .enum-told11 .given .1), search needs)
 
 returns-12 : tie.Need-returns-12
-unfolding numberOf
+unfolding terminatorNumber
 returns-12 c = (rw (c .enum-told12 .given .1), search needs)
 
 returns-13 : tie.Need-returns-13
-unfolding numberOf
+unfolding terminatorNumber
 returns-13 c = (rw (c .enum-told13 .given .1), search needs)
 
 returns-14 : tie.Need-returns-14
-unfolding numberOf
+unfolding terminatorNumber
 returns-14 c = (rw (c .enum-told14 .given .1), search needs)
 
 returns-15 : tie.Need-returns-15
-unfolding numberOf
+unfolding terminatorNumber
 returns-15 c = (rw (c .enum-told15 .given .1), search needs)
 
 returns-16 : tie.Need-returns-16
-unfolding numberOf
+unfolding terminatorNumber
 returns-16 c = (rw (c .enum-told16 .given .1), search needs)
 
 returns-17 : tie.Need-returns-17
-unfolding numberOf
+unfolding terminatorNumber
 returns-17 c = (rw (c .enum-told17 .given .1), search needs)
 
 returns-18 : tie.Need-returns-18
-unfolding numberOf
+unfolding terminatorNumber
 returns-18 c = (rw (c .enum-told18 .given .1), search needs)
 
 returns-19 : tie.Need-returns-19
-unfolding numberOf
+unfolding terminatorNumber
 returns-19 c = (rw (c .enum-told19 .given .1), search needs)
 
 returns-20 : tie.Need-returns-20
-unfolding numberOf
+unfolding terminatorNumber
 returns-20 c = (rw (c .enum-told20 .given .1), search needs)
 
 returns-21 : tie.Need-returns-21
-unfolding numberOf
+unfolding terminatorNumber
 returns-21 c = (rw (c .enum-told21 .given .1), search needs)
 
 returns-22 : tie.Need-returns-22
-unfolding numberOf
+unfolding terminatorNumber
 returns-22 c = (rw (c .enum-told22 .given .1), search needs)
 
 returns-23 : tie.Need-returns-23
-unfolding numberOf
+unfolding terminatorNumber
 returns-23 c = (rw (c .enum-told23 .given .1), search needs)
 
 pub number-spec : {M : Type 1} → statement M
