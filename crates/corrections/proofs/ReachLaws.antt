@@ -1,19 +1,20 @@
--- How far bytes go along with a form: bounds, one place of a form, and one turn of the loop over the bytes of a record.
+-- How far bytes go along with a form: bounds, one turn of a loop along its places, and the places of the three forms.
 -- Assumes nothing.
-use mathlib.Core.Path.{_≡_, refl, sym, ap, _∙_}
-use mathlib.Core.Bool.{Bool, true, false, cond, _&&_, _||_, false≢true}
+use mathlib.Core.Path.{_≡_, refl, sym, ap, subst, _∙_}
+use mathlib.Core.Bool.{Bool, true, false, cond}
 use mathlib.Core.List.{List, [], _∷_, _++_, map}
-use Prim.Native.Nat.{ℕ, suc, _+_, _-_, _≤_, _<_}
+use Prim.Native.Nat.{ℕ, zero, suc, _+_, _/_, _%_, _≤_, _<_}
 use native.Mathlib.Omega.{arith}
+use native.Mathlib.Nat.{le-of-suc-le-suc, not-suc-le-zero}
 use native.Mathlib.Decide.{decLt}
-use lib.Dec.{eqb, leb, ltb}
-use lib.ListN.{length, getD, drop, replicate, length-append, length-map, drop-of-length-le, List·getD-eq-default}
-use lib.Seq.{drop-cons}
-use borrow.Author.Tests.{ne-eqb, le-leb, lt-leb, ltb-true, ltb-false}
+use lib.Dec.{eqb, ltb}
+use lib.ListN.{length, getD, take, drop, replicate, length-append, length-map, drop-of-length-le}
+use lib.ListN.{List·getD-eq-default, List·getD-append, List·getD-map, getD-replicate}
+use lib.Seq.{drop-cons, getD-take}
+use borrow.Author.Tests.{eq-eqb, ne-eqb, ltb-true, ltb-false}
 use Rattle.slices.proofs.Cases.{split}
-use Rattle.slices.proofs.PartLaws.{one-less}
 use Rattle.digits.specs.Decimal.{decimal}
-use Rattle.digits.proofs.DecimalLaws.{decimal-width, decimal-ones, decimal-tens, decimal-hundreds}
+use Rattle.digits.proofs.DecimalLaws.{decimal-width, decimal-ones, decimal-tens, decimal-hundreds, width-below-1000}
 use Rattle.corrections.specs.Lines.{Span, exactly, printable, allows, Form, ended, heading, change, reach, reachAt}
 
 -- no further than the form, and no further than the bytes
@@ -29,8 +30,19 @@ reach-length [] bs = omega arith
 reach-length (s ∷ f) [] = omega arith
 reach-length (s ∷ f) (b ∷ bs) = split (allows s b) (λ e. rw e (omega (arith, reach-length f bs))) (λ e. rw e (omega arith))
 
--- one place of a form that lets no 0 in, so past the log's end too, where a byte reads as 0
-pub reach-at : (s : Span) (f : Form) (i : ℕ) (log : List ℕ) {b : ℕ} → allows s 0 ≡ false → b ≡ getD log i 0
+-- ---- along a form that lets no 0 in, so past the log's end too, where a byte reads as 0
+
+abbrev NoZero : Form → Type 0
+NoZero [] = Unit {0}
+NoZero (s ∷ f) = (allows s 0 ≡ false) × NoZero f
+
+no-zero-at : (f : Form) (k : ℕ) → NoZero f → k < length f → allows (getD f k (exactly 0)) 0 ≡ false
+no-zero-at [] k z h = absurd (not-suc-le-zero h)
+no-zero-at (s ∷ f) zero z h = z .0
+no-zero-at (s ∷ f) (suc k) z h = no-zero-at f k (z .1) (le-of-suc-le-suc h)
+
+-- one place
+reach-at : (s : Span) (f : Form) (i : ℕ) (log : List ℕ) {b : ℕ} → allows s 0 ≡ false → b ≡ getD log i 0
     → reachAt (s ∷ f) i log ≡ cond (allows s b) (suc (reachAt f (i + 1) log)) 0
 unfolding reach reachAt
 reach-at s f i log {b} z e = by (decLt i (length log))
@@ -42,108 +54,126 @@ reach-at s f i log {b} z e = by (decLt i (length log))
         let none : b ≡ 0 = e ∙ List·getD-eq-default log 0 past in
         rw (drop-of-length-le log past, none, z)
 
--- the same of a place for one byte alone, as the code asks it
-pub along : (f : Form) (i : ℕ) (log : List ℕ) (c : ℕ) {b d rest r : ℕ} → 0 < c → b ≡ getD log i 0 → d ≡ c → rest ≡ reachAt f (i + 1) log
-    → r ≡ cond (eqb b d) (suc rest) 0 → r ≡ reachAt (exactly c ∷ f) i log
-along f i log c {b} h e k m q = q ∙ rw (k, m) (sym (reach-at (exactly c) f i log (ne-eqb 0 c (λ (z : 0 ≡ c). omega arith)) e))
+module _ (f : Form) (i : ℕ) (log : List ℕ) (k : ℕ) where
+  -- how far they go, where k places were right
+  unfoldable pub along : ℕ
+  along = k + reachAt (drop k f) (i + k) log
 
-pub nothing-left : (i : ℕ) (log : List ℕ) → 0 ≡ reachAt [] i log
-unfolding reach reachAt
-nothing-left i log = refl
+  pub along-end : length f ≤ k → along ≡ k
+  unfolding along reach reachAt
+  along-end h = rw (drop-of-length-le f h) (omega arith)
 
-pub reach-at-most : (f : Form) (i : ℕ) (log : List ℕ) {r : ℕ} → r ≡ reachAt f i log → r ≤ length f
+  module _ {b : ℕ} (z : NoZero f) (h : k < length f) (e : b ≡ getD log (i + k) 0) where
+    along-cons : along ≡ k + cond (allows (getD f k (exactly 0)) b) (suc (reachAt (drop (suc k) f) (i + k + 1) log)) 0
+    unfolding along
+    along-cons =
+        rw (drop-cons f k (exactly 0) h)
+        (ap (λ (n : ℕ). k + n) (reach-at (getD f k (exactly 0)) (drop (suc k) f) (i + k) log (no-zero-at f k z h) e))
+
+    along-stop : allows (getD f k (exactly 0)) b ≡ false → along ≡ k
+    along-stop t = along-cons ∙ rw t (omega arith)
+
+pub along-start : (f : Form) (i : ℕ) (log : List ℕ) → reachAt f i log ≡ along f i log 0
+unfolding along
+along-start f i log = let e : i + 0 ≡ i = omega arith in rw e (omega arith)
+
+along-next : (f : Form) (i : ℕ) (log : List ℕ) (k : ℕ) {b : ℕ} → NoZero f → k < length f → b ≡ getD log (i + k) 0
+    → allows (getD f k (exactly 0)) b ≡ true → along f i log k ≡ along f i log (k + 1)
+unfolding along
+along-next f i log k z h e t =
+    let q : i + k + 1 ≡ i + (k + 1) = omega arith in
+    let s : suc k ≡ k + 1 = omega arith in
+    along-cons f i log k z h e ∙ rw (t, q, s) (omega arith)
+
+reach-at-most : (f : Form) (i : ℕ) (log : List ℕ) {r : ℕ} → r ≡ reachAt f i log → r ≤ length f
 unfolding reachAt
 reach-at-most f i log e = omega (arith, reach-within f (drop i log))
 
--- ---- the bytes of a record, of which k were right
-
-and-false : (t : Bool) → (t && false) ≡ false
-and-false true = refl
-and-false false = refl
-
-or-left-false : (s t : Bool) → (s || t) ≡ false → s ≡ false
-or-left-false true t e = e
-or-left-false false t e = refl
-
-or-right-false : (s t : Bool) → (s || t) ≡ false → t ≡ false
-or-right-false true t e = absurd (false≢true (sym e))
-or-right-false false t e = e
-
-module _ (log : List ℕ) (i k : ℕ) where
-  unfoldable pub recordReach : ℕ
-  recordReach = k + reachAt (replicate (132 - k) printable ++ ended) (i + k) log
-
-  record-cons : {b : ℕ} → k < 132 → b ≡ getD log (i + k) 0
-      → recordReach ≡ k + cond (leb 32 b && leb b 126) (suc (reachAt (replicate (132 - (k + 1)) printable ++ ended) (i + k + 1) log)) 0
-  unfolding recordReach
-  record-cons h e = rw (one-less 132 k h) (ap (λ (n : ℕ). k + n) (reach-at printable (replicate (132 - (k + 1)) printable ++ ended) (i + k) log refl e))
-
-  pub record-stop : {b : ℕ} → k < 132 → b ≡ getD log (i + k) 0 → (ltb b 32 || ltb 126 b) ≡ true → recordReach ≡ k
-  record-stop {b} h e t = record-cons h e ∙ rw (outside b t) (omega arith)
-    where
-      outside : (b : ℕ) → (ltb b 32 || ltb 126 b) ≡ true → (leb 32 b && leb b 126) ≡ false
-      outside b t = split (ltb b 32) (λ u. rw (lt-leb 32 b (ltb-true b 32 u))) (λ u. rw (lt-leb b 126 (ltb-true 126 b (rw u at t))) (and-false (leb 32 b)))
-
-pub record-start : (log : List ℕ) (i : ℕ) → reachAt (replicate 132 printable ++ ended) i log ≡ recordReach log i 0
-unfolding recordReach
-record-start log i = let e : i + 0 ≡ i = omega arith in rw e (omega arith)
-
-pub record-next : (log : List ℕ) (i k : ℕ) {b : ℕ} → k < 132 → b ≡ getD log (i + k) 0 → (ltb b 32 || ltb 126 b) ≡ false
-    → recordReach log i k ≡ recordReach log i (k + 1)
-unfolding recordReach
-record-next log i k {b} h e t =
-    let low : 32 ≤ b = ltb-false b 32 (or-left-false (ltb b 32) (ltb 126 b) t) in
-    let high : b ≤ 126 = ltb-false 126 b (or-right-false (ltb b 32) (ltb 126 b) t) in
-    let q : i + k + 1 ≡ i + (k + 1) = omega arith in
-    record-cons log i k h e ∙ rw (le-leb 32 b low, le-leb b 126 high, q) (omega arith)
-
-pub record-end : (log : List ℕ) (i k : ℕ) {r : ℕ} → k ≤ 132 → 132 ≤ k → r ≡ reachAt ended (i + 132) log → r + 132 ≡ recordReach log i k
-unfolding recordReach
-record-end log i k g h e = let q : k ≡ 132 = omega arith in rw (q, e) (omega arith)
-
--- ---- one place, as the code counts it
-
-pub one-further : {right : Bool} (rest : ℕ) → right ≡ true → rest + 1 ≡ cond right (suc rest) 0
-one-further rest e = rw e (omega arith)
-
-pub none-further : {right : Bool} (rest : ℕ) → right ≡ false → 0 ≡ cond right (suc rest) 0
-none-further rest e = rw e
-
-pub reach-short : (f : Form) (i : ℕ) (log : List ℕ) {r : ℕ} → r ≡ reachAt f i log → length f < 1000 → r < 1000
-reach-short f i log e h = omega (arith, reach-at-most f i log e)
-
--- ---- the number of a heading
+-- ---- the heading of a correction
 
 module _ (n : ℕ) where
-  pub number-width : length (map exactly (decimal n) ++ ended) ≡ length (decimal n) + 1
-  number-width = length-append (map exactly (decimal n)) ended ∙ rw (length-map (decimal n) exactly)
-
   pub heading-width : length (heading n) ≡ length (decimal n) + 3
   unfolding heading
-  heading-width = omega (arith, number-width)
-
-  -- below 1,000 from 4 to 6 bytes
-  pub heading-ones : n < 10 → 4 ≡ length (heading n)
-  heading-ones h = sym (heading-width ∙ rw (decimal-ones n h))
-
-  pub heading-tens : 10 ≤ n → n < 100 → 5 ≡ length (heading n)
-  heading-tens g h = sym (heading-width ∙ rw (decimal-tens n g h))
-
-  pub heading-hundreds : 100 ≤ n → n < 1000 → 6 ≡ length (heading n)
-  heading-hundreds g h = sym (heading-width ∙ rw (decimal-hundreds n g h))
-
-  pub number-short : length (map exactly (decimal n) ++ ended) < 1000
-  number-short = omega (arith, number-width, decimal-width n .1)
-
-  pub tab-short : length (exactly 9 ∷ (map exactly (decimal n) ++ ended)) < 1000
-  tab-short = omega (arith, number-width, decimal-width n .1)
+  heading-width = omega (arith, length-append (map exactly (decimal n)) ended, length-map (decimal n) exactly)
 
   pub heading-short : (4 ≤ length (heading n)) × (length (heading n) ≤ 23)
   heading-short = (omega (arith, heading-width, decimal-width n .0), omega (arith, heading-width, decimal-width n .1))
 
+  -- below 1,000 it has from 4 to 6 bytes
+  pub heading-ones : n < 10 → map exactly (67 ∷ 9 ∷ (n % 10 + 48) ∷ 10 ∷ []) ≡ heading n
+  unfolding heading
+  heading-ones h = rw (decimal-ones n h)
+
+  pub heading-tens : 10 ≤ n → n < 100 → map exactly (67 ∷ 9 ∷ (n / 10 % 10 + 48) ∷ (n % 10 + 48) ∷ 10 ∷ []) ≡ heading n
+  unfolding heading
+  heading-tens g h = rw (decimal-tens n g h)
+
+  pub heading-hundreds : 100 ≤ n → n < 1000
+      → map exactly (67 ∷ 9 ∷ (n / 100 % 10 + 48) ∷ (n / 10 % 10 + 48) ∷ (n % 10 + 48) ∷ 10 ∷ []) ≡ heading n
+  unfolding heading
+  heading-hundreds g h = rw (decimal-hundreds n g h)
+
+  heading-no-zero : n < 1000 → NoZero (heading n)
+  heading-no-zero h =
+      split (ltb n 10) (λ t. subst NoZero (heading-ones (ltb-true n 10 t)) (refl, (refl, (digit n, (refl, tt)))))
+      (λ t. split (ltb n 100)
+      (λ u. subst NoZero (heading-tens (ltb-false n 10 t) (ltb-true n 100 u)) (refl, (refl, (digit (n / 10), (digit n, (refl, tt))))))
+      (λ u. subst NoZero (heading-hundreds (ltb-false n 100 u) h) (refl, (refl, (digit (n / 100), (digit (n / 10), (digit n, (refl, tt))))))))
+    where
+      digit : (m : ℕ) → eqb 0 (m % 10 + 48) ≡ false
+      digit m = ne-eqb 0 (m % 10 + 48) (λ (z : 0 ≡ m % 10 + 48). omega arith)
+
+  pub heading-six : n < 1000 → length (heading n) ≤ 6
+  heading-six h = omega (arith, heading-width, width-below-1000 n h)
+
+-- one turn of the loop along its bytes, which stand in front of others
+module _ (n i : ℕ) (log bytes : List ℕ) (k : ℕ) {w b : ℕ} (small : n < 1000) (width : w ≡ length (heading n))
+    (text : map exactly (take w bytes) ≡ heading n) (h : k < w) (e : b ≡ getD log (i + k) 0) where
+  place : getD (heading n) k (exactly 0) ≡ exactly (getD bytes k 0)
+  place =
+      ap (λ (f : Form). getD f k (exactly 0)) (sym text) ∙ List·getD-map exactly (take w bytes) k 0 ∙ ap exactly (getD-take w bytes k 0 h)
+
+  pub heading-stop : (b ≡ getD bytes k 0 → ⊥) → along (heading n) i log k ≡ k
+  heading-stop q = along-stop (heading n) i log k (heading-no-zero n small) (omega arith) e (rw place (ne-eqb b (getD bytes k 0) q))
+
+  pub heading-next : b ≡ getD bytes k 0 → along (heading n) i log k ≡ along (heading n) i log (k + 1)
+  heading-next q = along-next (heading n) i log k (heading-no-zero n small) (omega arith) e (rw place (eq-eqb b (getD bytes k 0) q))
+
+-- ---- a D or A line
+
 pub change-width : (letter : ℕ) → length (change letter) ≡ 135
 unfolding change
 change-width letter = refl
+
+change-no-zero : (letter : ℕ) → 0 < letter → NoZero (change letter)
+unfolding change
+change-no-zero letter h = (ne-eqb 0 letter (λ (z : 0 ≡ letter). omega arith), (refl, bytes 132))
+  where
+    bytes : (n : ℕ) → NoZero (replicate n printable ++ ended)
+    bytes zero = (refl, tt)
+    bytes (suc n) = (refl, bytes n)
+
+-- the places of the record and of the line feed
+module _ (letter : ℕ) where
+  pub change-record : (k : ℕ) → (k ≡ 0 → ⊥) → (k ≡ 1 → ⊥) → k < 134 → getD (change letter) k (exactly 0) ≡ printable
+  unfolding change
+  change-record zero g f h = absurd (g refl)
+  change-record (suc zero) g f h = absurd (f refl)
+  change-record (suc (suc k)) g f h =
+      List·getD-append (replicate 132 printable) ended (exactly 0) k (omega arith) ∙ getD-replicate 132 k printable (exactly 0) (omega arith)
+
+  pub change-end : (k : ℕ) → 134 ≤ k → k < 135 → getD (change letter) k (exactly 0) ≡ exactly 10
+  unfolding change
+  change-end k g h = let e : k ≡ 134 = omega arith in rw e
+
+-- one turn of the loop along its places
+module _ (letter i : ℕ) (log : List ℕ) (k : ℕ) {b : ℕ} {right : Bool} (some : 0 < letter) (h : k < 135) (e : b ≡ getD log (i + k) 0)
+    (q : right ≡ allows (getD (change letter) k (exactly 0)) b) where
+  pub change-stop : right ≡ false → along (change letter) i log k ≡ k
+  change-stop t = along-stop (change letter) i log k (change-no-zero letter some) (omega (arith, change-width letter)) e (sym q ∙ t)
+
+  pub change-next : right ≡ true → along (change letter) i log k ≡ along (change letter) i log (k + 1)
+  change-next t = along-next (change letter) i log k (change-no-zero letter some) (omega (arith, change-width letter)) e (sym q ∙ t)
 
 -- how far a heading and a D or A line can be gone along with
 module _ (i : ℕ) (log : List ℕ) {r : ℕ} where

@@ -1,12 +1,10 @@
 // One line of a log: which line stands at an offset, and the first byte from which none can be completed there.
 // Assumes of its callers, all in this crate, that an offset is not far past 60,000 and that no more than 200 corrections have begun.
 ghost use mathlib.Core.Path.{_≡_};
-ghost use mathlib.Core.Bool.{cond};
-ghost use mathlib.Core.List.{_∷_, _++_, map};
-ghost use Prim.Native.Nat.{suc, _+_, _/_, _%_, _<_, _≤_, max};
-ghost use lib.ListN.{length, replicate};
-ghost use Rattle.digits.specs.Decimal.{decimal};
-ghost use Rattle.corrections.specs.Lines.{exactly, printable, ended, heading, change, reachAt, lineAt};
+ghost use mathlib.Core.List.{map};
+ghost use Prim.Native.Nat.{_+_, _%_, _<_, _≤_, max};
+ghost use lib.ListN.{length, getD, take};
+ghost use Rattle.corrections.specs.Lines.{exactly, allows, heading, change, reachAt, lineAt};
 use crate::CHANGE_WIDTH;
 use slices::byte_at;
 
@@ -15,14 +13,6 @@ pub enum Line {
     TakenOut,
     PutIn,
     Stopped(usize),
-}
-
-// One place of a form: where its byte is right, one more than go along behind it, else none.
-fn one_more(right: bool, rest: usize) -> usize
-    requires { ⌜ rest < 1000 ⌝ }
-    ensures { λ r. ⌜ r ≡ cond right (suc rest) 0 ⌝ }
-{
-    if right { rest + 1 } else { 0 }
 }
 
 // The greater of two numbers.
@@ -39,105 +29,32 @@ fn digit(n: usize) -> u8
     (n % 10) as u8 + 48
 }
 
-// How far the bytes go along with a line's end.
-fn reach_end(log: &[u8], i: usize) -> usize
-    ensures { λ r. ⌜ r ≡ reachAt ended i (now (log .entry)) ⌝ }
-{
-    one_more(byte_at(log, i) == 10, 0)
+// The heading of a correction as text: its bytes, the line feed the last of them, and how many they are.
+struct HeadingText {
+    bytes: [u8; 6],
+    width: usize,
 }
 
-// How far they go along with the last digit of a number and the line's end.
-fn reach_ones(log: &[u8], i: usize, n: usize) -> usize
-    requires { ⌜ i < 100000 ⌝ }
-    ensures { λ r. ⌜ r ≡ reachAt (exactly (n % 10 + 48) ∷ ended) i (now (log .entry)) ⌝ }
-{
-    let rest = reach_end(log, i + 1);
-    one_more(byte_at(log, i) == digit(n), rest)
-}
-
-// The same with its last two digits.
-fn reach_tens(log: &[u8], i: usize, n: usize) -> usize
-    requires { ⌜ i < 90000 ⌝ }
-    ensures { λ r. ⌜ r ≡ reachAt (exactly (n / 10 % 10 + 48) ∷ exactly (n % 10 + 48) ∷ ended) i (now (log .entry)) ⌝ }
-{
-    let rest = reach_ones(log, i + 1, n);
-    one_more(byte_at(log, i) == digit(n / 10), rest)
-}
-
-// The same with its last three digits.
-fn reach_hundreds(log: &[u8], i: usize, n: usize) -> usize
-    requires { ⌜ i < 80000 ⌝ }
-    ensures { λ r. ⌜ r ≡ reachAt (exactly (n / 100 % 10 + 48) ∷ exactly (n / 10 % 10 + 48) ∷ exactly (n % 10 + 48) ∷ ended) i (now (log .entry)) ⌝ }
-{
-    let rest = reach_tens(log, i + 1, n);
-    one_more(byte_at(log, i) == digit(n / 100), rest)
-}
-
-// How far they go along with a number and the line's end.
-fn reach_number(log: &[u8], i: usize, n: usize) -> usize
-    requires { ⌜ (i < 80000) × (n < 1000) ⌝ }
-    ensures { λ r. ⌜ r ≡ reachAt (map exactly (decimal n) ++ ended) i (now (log .entry)) ⌝ }
+fn heading_text(n: usize) -> HeadingText
+    requires { ⌜ n < 1000 ⌝ }
+    ensures { λ r. ⌜ (r .width ≡ length (heading n)) × (map exactly (take (r .width) (r .bytes)) ≡ heading n) ⌝ }
 {
     if n < 10 {
-        return reach_ones(log, i, n);
+        return HeadingText {
+            bytes: [b'C', b'\t', digit(n), b'\n', 0, 0],
+            width: 4,
+        };
     }
     if n < 100 {
-        return reach_tens(log, i, n);
+        return HeadingText {
+            bytes: [b'C', b'\t', digit(n / 10), digit(n), b'\n', 0],
+            width: 5,
+        };
     }
-    reach_hundreds(log, i, n)
-}
-
-// How far they go along with a tab, a number and the line's end.
-fn reach_tab_number(log: &[u8], i: usize, n: usize) -> usize
-    requires { ⌜ (i < 75000) × (n < 1000) ⌝ }
-    ensures { λ r. ⌜ r ≡ reachAt (exactly 9 ∷ (map exactly (decimal n) ++ ended)) i (now (log .entry)) ⌝ }
-{
-    let rest = reach_number(log, i + 1, n);
-    one_more(byte_at(log, i) == b'\t', rest)
-}
-
-// How far they go along with the heading of a correction.
-fn reach_heading(log: &[u8], i: usize, n: usize) -> usize
-    requires { ⌜ (i < 70000) × (n < 1000) ⌝ }
-    ensures { λ r. ⌜ r ≡ reachAt (heading n) i (now (log .entry)) ⌝ }
-{
-    let rest = reach_tab_number(log, i + 1, n);
-    one_more(byte_at(log, i) == b'C', rest)
-}
-
-// How far they go along with the 132 bytes of a record and the line's end.
-fn reach_record(log: &[u8], i: usize) -> usize
-    requires { ⌜ i < 80000 ⌝ }
-    ensures { λ r. ⌜ r ≡ reachAt (replicate 132 printable ++ ended) i (now (log .entry)) ⌝ }
-{
-    let mut k = 0;
-    while k < 132 {
-        let b = byte_at(log, i + k);
-        if (b < 32) | (126 < b) {
-            return k;
-        }
-        k += 1;
+    HeadingText {
+        bytes: [b'C', b'\t', digit(n / 100), digit(n / 10), digit(n), b'\n'],
+        width: 6,
     }
-    let end = reach_end(log, i + 132);
-    end + 132
-}
-
-// How far they go along with a tab, a record and the line's end.
-fn reach_tab_record(log: &[u8], i: usize) -> usize
-    requires { ⌜ i < 75000 ⌝ }
-    ensures { λ r. ⌜ r ≡ reachAt (exactly 9 ∷ (replicate 132 printable ++ ended)) i (now (log .entry)) ⌝ }
-{
-    let rest = reach_record(log, i + 1);
-    one_more(byte_at(log, i) == b'\t', rest)
-}
-
-// How far they go along with a D or A line.
-fn reach_change(log: &[u8], i: usize, letter: u8) -> usize
-    requires { ⌜ (i < 70000) × (0 < letter) ⌝ }
-    ensures { λ r. ⌜ r ≡ reachAt (change letter) i (now (log .entry)) ⌝ }
-{
-    let rest = reach_tab_record(log, i + 1);
-    one_more(byte_at(log, i) == letter, rest)
 }
 
 // How many bytes the heading of a correction has.
@@ -145,13 +62,58 @@ pub(crate) fn heading_width(n: usize) -> usize
     requires { ⌜ n < 1000 ⌝ }
     ensures { λ r. ⌜ r ≡ length (heading n) ⌝ }
 {
-    if n < 10 {
-        return 4;
+    let text = heading_text(n);
+    text.width
+}
+
+// How far the bytes from an offset on go along with the heading of a correction.
+fn reach_heading(log: &[u8], i: usize, n: usize) -> usize
+    requires { ⌜ (i < 70000) × (n < 1000) ⌝ }
+    ensures { λ r. ⌜ r ≡ reachAt (heading n) i (now (log .entry)) ⌝ }
+{
+    let text = heading_text(n);
+    let bytes = text.bytes;
+    let width = text.width;
+    let mut k = 0;
+    while k < width {
+        if byte_at(log, i + k) != bytes[k] {
+            return k;
+        }
+        k += 1;
     }
-    if n < 100 {
-        return 5;
+    k
+}
+
+// Whether a byte may stand at a place, counted from 0, of a D or A line: its letter, a tab, the 132 bytes of a record and the line feed.
+fn change_allows(letter: u8, k: usize, b: u8) -> bool
+    requires { ⌜ k < 135 ⌝ }
+    ensures { λ r. ⌜ r ≡ allows (getD (change letter) k (exactly 0)) b ⌝ }
+{
+    if k == 0 {
+        return b == letter;
     }
-    6
+    if k == 1 {
+        return b == b'\t';
+    }
+    if k < 134 {
+        return (32 <= b) & (b <= 126);
+    }
+    b == b'\n'
+}
+
+// How far they go along with a D or A line.
+fn reach_change(log: &[u8], i: usize, letter: u8) -> usize
+    requires { ⌜ (i < 70000) × (0 < letter) ⌝ }
+    ensures { λ r. ⌜ r ≡ reachAt (change letter) i (now (log .entry)) ⌝ }
+{
+    let mut k = 0;
+    while k < 135 {
+        if !change_allows(letter, k, byte_at(log, i + k)) {
+            return k;
+        }
+        k += 1;
+    }
+    k
 }
 
 // The line that stands at an offset, where so many corrections have begun.
