@@ -1,7 +1,7 @@
 // Reading a file of the folder that a program is run in. Assumes nothing of the caller: any path, any buffer.
 //
-// What a file holds is the world's to say, so this is the one contract of the library that leaves an answer open: it says only how much of
-// the buffer the answer counts, and that the rest is 0.
+// What a file holds is the world's to say, so this is the one public contract of the library that leaves an answer open: it says only that
+// the answer counts no more than the buffer holds, and that the rest is 0.
 ghost use mathlib.Core.Path.{_≡_};
 ghost use Prim.Native.Nat.{_-_, _≤_};
 ghost use lib.ListN.{length, drop, replicate};

@@ -1,5 +1,5 @@
--- That every contract determines its answer: for each public function of the library, two results that its contract allows for the same
--- arguments are equal, and so are the bytes that stand at the exit in what it was lent to write to. Where the result is a part of a lent
+-- That every contract determines its answer: for each public function of the library but `folder::read`, two results that its contract
+-- allows for the same arguments are equal, and so are the bytes that stand at the exit in what it was lent to write to. Where the result is a part of a lent
 -- slice, its bytes are equal. `Post` is the function's own contract, as it is made from the source: `Reads` has what its `ensures` says of the
 -- arguments, the result and the parameters at exit, and `Kinds` the types of its parameters and of its result.
 -- Assumes nothing.
