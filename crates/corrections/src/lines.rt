@@ -107,7 +107,7 @@ fn reach_change(log: &[u8], i: usize, letter: u8) -> usize
     ensures { λ r. ⌜ r ≡ reachAt (change letter) i (now (log .entry)) ⌝ }
 {
     let mut k = 0;
-    while k < 135 {
+    while k < CHANGE_WIDTH {
         if !change_allows(letter, k, byte_at(log, i + k)) {
             return k;
         }
