@@ -1,4 +1,4 @@
--- The laws of this crate; Bridge ties what is run to the theory of selection.
+-- The laws of this crate; Bridge ties what is run to the theory of selection, OriginLaws and LastPut say where each record comes from.
 mod ShiftLaws
 pub mod StateLaws
 pub mod ApplyLaws
@@ -12,3 +12,5 @@ pub mod Kept
 pub mod PlacedLaws
 pub mod TouchedLaws
 pub mod Bridge
+pub mod OriginLaws
+pub mod LastPut

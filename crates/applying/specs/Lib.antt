@@ -6,3 +6,4 @@ pub mod Run
 pub mod Procedures
 pub mod Bounds
 pub mod Known
+pub mod Origin

@@ -1,4 +1,4 @@
--- The laws of this crate; what is promised stands in Demand.
+-- The laws of this crate; what is promised stands in Demand and Origins.
 pub mod OpeningLaws
 mod MarkLaws
 mod RelianceLaws
@@ -12,5 +12,6 @@ pub mod LogLaws
 pub mod OpenedLaws
 pub mod PickSteps
 pub mod Demand
+pub mod Origins
 mod StoredLaws
 pub mod Answers

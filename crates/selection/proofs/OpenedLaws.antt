@@ -39,7 +39,7 @@ use Rattle.selection.proofs.LogLaws.{log-operations, wide-log, adds-log
 -- ---- the frozen file
 
 -- its own sources stand for its own records
-own-sources : (frozen log : List ℕ) → map (recordAt frozen log) (inUse (sourcesOf frozen)) ≡ records frozen
+pub own-sources : (frozen log : List ℕ) → map (recordAt frozen log) (inUse (sourcesOf frozen)) ≡ records frozen
 unfolding inUse recordsIn
 own-sources frozen log =
     let s = sourcesOf frozen in
