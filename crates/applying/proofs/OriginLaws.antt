@@ -29,10 +29,9 @@ use Rattle.history.specs.Apply.{put-in, apply}
 use Rattle.history.specs.Sets.{Numbers}
 use Rattle.history.proofs.Cases.{every-some, cond-some}
 use Rattle.history.proofs.Local.{above-trans, rising-apply}
-use Rattle.applying.specs.State.{reached, putAt, leftOut, notBefore, before, hasPlace, isRecord, withSource, withoutRecord}
-use Rattle.applying.specs.Apply.{sourceOf, recordOf, lineApplied, linesApplied, touchedJudged}
-use Rattle.applying.specs.Correct.{Outcome, stopped, corrected, afterLines, afterJudging}
-use Rattle.applying.specs.Correct as C
+use Rattle.applying.specs.State.{notLess, putAt, leftOut, notBefore, countBefore, hasPlace, isRecord, withSource, withoutRecord}
+use Rattle.applying.specs.Apply.{sourceOf, recordOfLine, lineApplied, linesApplied, touchedJudged}
+use Rattle.applying.specs.Correct.{Outcome, stopped, reached, corrected, afterLines, afterJudging}
 use Rattle.applying.specs.Run.{onward, ran}
 use Rattle.applying.specs.Procedures.{procedures}
 use Rattle.applying.specs.Origin.{Elsewhere, Origin, fromLog, fromFrozen}
@@ -101,12 +100,12 @@ module _ (f l : List ℕ) where
       facing : Ordering
       facing = order (placeOf (recordAt f l x)) (placeOf rec)
 
-      before-later : facing ≡ Less → before f l rec (x ∷ xs) ≡ suc (before f l rec xs)
-      unfolding facing before firstAt notBefore
+      before-later : facing ≡ Less → countBefore f l rec (x ∷ xs) ≡ suc (countBefore f l rec xs)
+      unfolding facing countBefore firstAt notBefore
       before-later e = rw e
 
-      before-here : reached facing ≡ true → before f l rec (x ∷ xs) ≡ 0
-      unfolding facing before firstAt notBefore
+      before-here : notLess facing ≡ true → countBefore f l rec (x ∷ xs) ≡ 0
+      unfolding facing countBefore firstAt notBefore
       before-here e = rw e
 
       less-off : facing ≡ Less → Off rec x
@@ -114,11 +113,11 @@ module _ (f l : List ℕ) where
       less-off e q = irreflexive (placeOf rec) (subst (λ (p : List ℕ). order p (placeOf rec) ≡ Less) (sym q) e)
 
       -- where x is not before the record, no later source is of its place
-      rest-off : reached facing ≡ true → H.Above procedures (placeOf (recordAt f l x)) (R xs) → Every (Off rec) xs
+      rest-off : notLess facing ≡ true → H.Above procedures (placeOf (recordAt f l x)) (R xs) → Every (Off rec) xs
       unfolding facing
       rest-off t a = by facing refl t
         where
-          by : (o : Ordering) → facing ≡ o → reached o ≡ true → Every (Off rec) xs
+          by : (o : Ordering) → facing ≡ o → notLess o ≡ true → Every (Off rec) xs
           by Less e t = absurd (false≢true t)
           by Equal e t =
               above-off xs (subst (λ (p : List ℕ). H.Above procedures p (R xs)) (order-equal (placeOf (recordAt f l x)) (placeOf rec) e) a)
@@ -127,31 +126,31 @@ module _ (f l : List ℕ) where
               (above-trans procedures (placeOf rec) (placeOf (recordAt f l x)) (R xs)
               (order-turned (placeOf (recordAt f l x)) (placeOf rec) ∙ ap turned e) a)
 
-    free-off : (xs : List ℕ) → H.Rising procedures (R xs) → hasPlace f l rec (drop (before f l rec xs) xs) ≡ false → Every (Off rec) xs
+    free-off : (xs : List ℕ) → H.Rising procedures (R xs) → hasPlace f l rec (drop (countBefore f l rec xs) xs) ≡ false → Every (Off rec) xs
     unfolding hasPlace equal facing
     free-off [] a h = tt
     free-off (x ∷ xs) a h = by (facing x xs) refl (free-off xs (a .1))
       where
-        by : (o : Ordering) → facing x xs ≡ o → (hasPlace f l rec (drop (before f l rec xs) xs) ≡ false → Every (Off rec) xs)
+        by : (o : Ordering) → facing x xs ≡ o → (hasPlace f l rec (drop (countBefore f l rec xs) xs) ≡ false → Every (Off rec) xs)
             → Every (Off rec) (x ∷ xs)
         by Less e ih = (less-off x xs e, ih (rw (before-later x xs e) at h))
-        by Equal e ih = let z = rw (before-here x xs (ap reached e), e) at h in absurd (false≢true (sym z))
-        by Greater e ih = (other, rest-off x xs (ap reached e) (a .0))
+        by Equal e ih = let z = rw (before-here x xs (ap notLess e), e) at h in absurd (false≢true (sym z))
+        by Greater e ih = (other, rest-off x xs (ap notLess e) (a .0))
           where
             other : Off rec x
             other q = irreflexive (placeOf rec)
                 (subst (λ (p : List ℕ). order (placeOf rec) p ≡ Less) (sym q) (order-turned (placeOf (recordAt f l x)) (placeOf rec) ∙ ap turned e))
 
-    left-off : (xs : List ℕ) → H.Rising procedures (R xs) → Every (Off rec) (leftOut (before f l rec xs) xs)
+    left-off : (xs : List ℕ) → H.Rising procedures (R xs) → Every (Off rec) (leftOut (countBefore f l rec xs) xs)
     unfolding leftOut facing
-    left-off [] a = every-left (Off rec) (before f l rec []) [] tt
+    left-off [] a = every-left (Off rec) (countBefore f l rec []) [] tt
     left-off (x ∷ xs) a = by (facing x xs) refl (left-off xs (a .1))
       where
-        by : (o : Ordering) → facing x xs ≡ o → Every (Off rec) (leftOut (before f l rec xs) xs)
-            → Every (Off rec) (leftOut (before f l rec (x ∷ xs)) (x ∷ xs))
+        by : (o : Ordering) → facing x xs ≡ o → Every (Off rec) (leftOut (countBefore f l rec xs) xs)
+            → Every (Off rec) (leftOut (countBefore f l rec (x ∷ xs)) (x ∷ xs))
         by Less e ih = rw (before-later x xs e) (less-off x xs e, ih)
-        by Equal e ih = rw (before-here x xs (ap reached e)) (rest-off x xs (ap reached e) (a .0))
-        by Greater e ih = rw (before-here x xs (ap reached e)) (rest-off x xs (ap reached e) (a .0))
+        by Equal e ih = rw (before-here x xs (ap notLess e)) (rest-off x xs (ap notLess e) (a .0))
+        by Greater e ih = rw (before-here x xs (ap notLess e)) (rest-off x xs (ap notLess e) (a .0))
 
   -- ---- and places still rise
 
@@ -190,9 +189,9 @@ module _ (f l : List ℕ) where
       (every-append (Elsewhere f l s) after (e ∷ []) b (n, tt))
   origin-kept lines e s (fromFrozen o b) n = fromFrozen o (every-append (Elsewhere f l s) lines (e ∷ []) b (n, tt))
 
-  kept-all : (lines : List Entry) (e : Entry) (xs : List ℕ) → Every (Origin f l lines) xs → Every (Off (recordOf f l e)) xs
+  kept-all : (lines : List Entry) (e : Entry) (xs : List ℕ) → Every (Origin f l lines) xs → Every (Off (recordOfLine f l e)) xs
       → Every (Origin f l (lines ++ e ∷ [])) xs
-  kept-all lines e xs o n = every-both (Origin f l lines) (Off (recordOf f l e)) (Origin f l (lines ++ e ∷ [])) (λ s. origin-kept lines e s) xs o n
+  kept-all lines e xs o n = every-both (Origin f l lines) (Off (recordOfLine f l e)) (Origin f l (lines ++ e ∷ [])) (λ s. origin-kept lines e s) xs o n
 
   no-some : {ys : List ℕ} → none ≡ some ys → ⊥
   no-some e = let z : _≡_ {A = ℕ} 0 1 = cc in omega arith
@@ -206,26 +205,26 @@ module _ (f l : List ℕ) where
   source-traced lines e xs ys a q t =
       split (leb 480 (length xs)) (λ full. absurd (no-some (rw full at q)))
       (λ room.
-      split (hasPlace f l (recordOf f l e) (drop (before f l (recordOf f l e) xs) xs)) (λ taken. absurd (no-some (rw (room, taken) at q)))
+      split (hasPlace f l (recordOfLine f l e) (drop (countBefore f l (recordOfLine f l e) xs) xs)) (λ taken. absurd (no-some (rw (room, taken) at q)))
       (λ free.
-      let same : putAt (before f l (recordOf f l e) xs) (sourceOf e) xs ≡ ys = some-same (rw (room, free) at q) in
+      let same : putAt (countBefore f l (recordOfLine f l e) xs) (sourceOf e) xs ≡ ys = some-same (rw (room, free) at q) in
       record {
         rises = rising-put (sourceOf e) xs ys (leb-false 480 (length xs) room) q (t .rises);
         origins = subst (Every (Origin f l (lines ++ e ∷ []))) same
-            (every-put (Origin f l (lines ++ e ∷ [])) (before f l (recordOf f l e) xs) (sourceOf e) xs (fromLog lines e [] refl a refl tt)
-            (kept-all lines e xs (t .origins) (free-off (recordOf f l e) xs (t .rises) free)));
+            (every-put (Origin f l (lines ++ e ∷ [])) (countBefore f l (recordOfLine f l e) xs) (sourceOf e) xs (fromLog lines e [] refl a refl tt)
+            (kept-all lines e xs (t .origins) (free-off (recordOfLine f l e) xs (t .rises) free)));
       }))
 
-  record-traced : (lines : List Entry) (e : Entry) (xs ys : List ℕ) → withoutRecord f l (recordOf f l e) xs ≡ some ys → Traced lines xs
+  record-traced : (lines : List Entry) (e : Entry) (xs ys : List ℕ) → withoutRecord f l (recordOfLine f l e) xs ≡ some ys → Traced lines xs
       → Traced (lines ++ e ∷ []) ys
   unfolding withoutRecord
   record-traced lines e xs ys q t =
-      let i = before f l (recordOf f l e) xs in
-      let same = cond-some (isRecord f l (recordOf f l e) (drop i xs)) (leftOut i xs) ys q .1 in
+      let i = countBefore f l (recordOfLine f l e) xs in
+      let same = cond-some (isRecord f l (recordOfLine f l e) (drop i xs)) (leftOut i xs) ys q .1 in
       subst (Traced (lines ++ e ∷ [])) same
       (record {
         rises = rising-left i xs (t .rises);
-        origins = kept-all lines e (leftOut i xs) (every-left (Origin f l lines) i xs (t .origins)) (left-off (recordOf f l e) xs (t .rises));
+        origins = kept-all lines e (leftOut i xs) (every-left (Origin f l lines) i xs (t .origins)) (left-off (recordOfLine f l e) xs (t .rises));
       })
 
   pub line-traced : (lines : List Entry) (e : Entry) (xs ys : List ℕ) → Lettered e → lineApplied f l e xs ≡ some ys → Traced lines xs
@@ -249,23 +248,23 @@ module _ (f l : List ℕ) where
       by (some zs) p h ih =
           subst (λ (done : List Entry). Traced done ys) (append-assoc lines (e ∷ []) es) (ih zs h (line-traced lines e xs zs (w .0) p t))
 
-  no-reached : {r : Refusal} {ys : List ℕ} → stopped r ≡ C.reached ys → ⊥
+  no-reached : {r : Refusal} {ys : List ℕ} → stopped r ≡ reached ys → ⊥
   no-reached e = let z : _≡_ {A = ℕ} 0 1 = cc in omega arith
 
-  corrected-lines : (n : ℕ) (es : List Entry) (xs ys : List ℕ) → corrected f l n es xs ≡ C.reached ys → linesApplied f l es xs ≡ some ys
+  corrected-lines : (n : ℕ) (es : List Entry) (xs ys : List ℕ) → corrected f l n es xs ≡ reached ys → linesApplied f l es xs ≡ some ys
   unfolding corrected
   corrected-lines n es xs ys q = by (linesApplied f l es xs) q
     where
-      by : (next : Option (List ℕ)) → afterLines f l n es next ≡ C.reached ys → next ≡ some ys
+      by : (next : Option (List ℕ)) → afterLines f l n es next ≡ reached ys → next ≡ some ys
       by none h = absurd (no-reached h)
       by (some zs) h = judged (touchedJudged f l es 0 zs) h
         where
-          judged : (v : Verdict) → afterJudging n zs v ≡ C.reached ys → some zs ≡ some ys
+          judged : (v : Verdict) → afterJudging n zs v ≡ reached ys → some zs ≡ some ys
           judged Accepted e = let same : zs ≡ ys = cc in ap some same
           judged (Refused r) e = absurd (no-reached e)
 
   pub ran-traced : (T : Numbers) (n : ℕ) (ess : List (List Entry)) (lines : List Entry) (xs ys : List ℕ) → Every (Every Lettered) ess
-      → ran f l T n ess xs ≡ C.reached ys → Traced lines xs → Traced (lines ++ linesOf T n ess) ys
+      → ran f l T n ess xs ≡ reached ys → Traced lines xs → Traced (lines ++ linesOf T n ess) ys
   unfolding ran linesOf
   ran-traced T n [] lines xs ys w q t = let same : xs ≡ ys = cc in rw (append-nil lines, ← same) t
   ran-traced T n (es ∷ ess) lines xs ys w q t =
@@ -275,10 +274,10 @@ module _ (f l : List ℕ) where
       rest : List Entry
       rest = linesOf T (n + 1) ess
 
-      by : (next : Outcome) → corrected f l n es xs ≡ next → onward next (ran f l T (n + 1) ess) ≡ C.reached ys
-          → ((zs : List ℕ) → ran f l T (n + 1) ess zs ≡ C.reached ys → Traced (lines ++ es) zs → Traced ((lines ++ es) ++ rest) ys)
+      by : (next : Outcome) → corrected f l n es xs ≡ next → onward next (ran f l T (n + 1) ess) ≡ reached ys
+          → ((zs : List ℕ) → ran f l T (n + 1) ess zs ≡ reached ys → Traced (lines ++ es) zs → Traced ((lines ++ es) ++ rest) ys)
           → Traced (lines ++ (es ++ rest)) ys
       by (stopped r) p h ih = absurd (no-reached h)
-      by (C.reached zs) p h ih =
+      by (reached zs) p h ih =
           subst (λ (done : List Entry). Traced done ys) (append-assoc lines es rest)
           (ih zs h (lines-traced lines es xs zs (w .0) (corrected-lines n es xs zs p) t))

@@ -11,7 +11,7 @@ use Rattle.slices.specs.Part.{member}
 use Rattle.corrections.specs.Reading.{Entry}
 use Rattle.routes.specs.Places.{placeOf, Every}
 use Rattle.routes.specs.Sources.{recordAt, records}
-use Rattle.applying.specs.Apply.{sourceOf, recordOf}
+use Rattle.applying.specs.Apply.{sourceOf, recordOfLine}
 
 -- the lines of the corrections taken, in the order of the log
 unfoldable pub linesTaken : (taken : List ℕ) → List Entry → List Entry
@@ -25,7 +25,7 @@ OfFrozen frozen s = (i : ℕ) × (i < length (records frozen)) × (s ≡ i * 133
 module _ (frozen log : List ℕ) where
   -- a line's record, be it put in or taken out, is of another place than the record of a source
   abbrev pub Elsewhere : (source : ℕ) → Entry → Type 0
-  Elsewhere s e = placeOf (recordOf frozen log e) ≡ placeOf (recordAt frozen log s) → ⊥
+  Elsewhere s e = placeOf (recordOfLine frozen log e) ≡ placeOf (recordAt frozen log s) → ⊥
 
   -- Either an A line among the lines has the source, and no line behind it is of that place: none takes the record out, and none puts one
   -- in. Or the source is one of the frozen file's own, and no line at all is of that place.
@@ -36,7 +36,7 @@ module _ (frozen log : List ℕ) where
 
   -- a line puts in the record of a source
   abbrev pub PutsIn : (source : ℕ) → Entry → Type 0
-  PutsIn s e = (e .letter ≡ code "A") × (recordOf frozen log e ≡ recordAt frozen log s)
+  PutsIn s e = (e .letter ≡ code "A") × (recordOfLine frozen log e ≡ recordAt frozen log s)
 
   abbrev pub NonePutsIn : (source : ℕ) → List Entry → Type 0
   NonePutsIn s es = Every (λ e. PutsIn s e → ⊥) es

@@ -25,7 +25,7 @@ use Rattle.routes.specs.Places.{placeOf, Every}
 use Rattle.routes.specs.Sources.{recordAt, records, inUse, starts, sourcesFor, sourcesTo, sourcesOf}
 use Rattle.history.specs.Format as H
 use Rattle.history.specs.Sets.{Numbers}
-use Rattle.applying.specs.Apply.{sourceOf, recordOf}
+use Rattle.applying.specs.Apply.{sourceOf, recordOfLine}
 use Rattle.applying.specs.Correct.{reached}
 use Rattle.applying.specs.Run.{byCorrection}
 use Rattle.applying.specs.Origin.{linesTaken, OfFrozen, Elsewhere, Origin, fromLog, fromFrozen, HandedBack}
@@ -210,7 +210,7 @@ module _ (f l : List ℕ) (a : H.Rising procedures (records f)) where
   one-origin : (lines : List Entry) (s t : ℕ) → Origin f l lines s → Origin f l lines t → placeAt s ≡ placeAt t → s ≡ t
   one-origin lines s t (fromLog front d after p _ h b) (fromLog front′ d′ after′ p′ _ h′ b′) e =
       h
-      ∙ ap sourceOf (same-last (λ z. placeOf (recordOf f l z) ≡ placeAt s) front d after front′ d′ after′ (sym p ∙ p′)
+      ∙ ap sourceOf (same-last (λ z. placeOf (recordOfLine f l z) ≡ placeAt s) front d after front′ d′ after′ (sym p ∙ p′)
       (ap placeAt (sym h)) (ap placeAt (sym h′) ∙ sym e) b (every-weaker (Elsewhere f l t) (Elsewhere f l s) (λ z n q. n (q ∙ e)) after′ b′))
       ∙ sym h′
   one-origin lines s t (fromLog front d after p _ h b) (fromFrozen o b′) e =
