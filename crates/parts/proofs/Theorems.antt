@@ -19,7 +19,7 @@ use Rattle.columns.specs.Kinds.{kindOf}
 use Rattle.columns.specs.declared.Kind.{Kind}
 use Rattle.columns.specs.declared.Kind.the-variants as kind
 use Rattle.columns.proofs.Content.{primary-kind, continuation-kind}
-use Rattle.refusals.specs.Table.{cutShort, bufferTooShort}
+use Rattle.refusals.specs.Table.{cutShort}
 use Rattle.refusals.specs.declared.Refusal.{Refusal}
 use Rattle.refusals.specs.declared.Verdict.{Verdict}
 use Rattle.refusals.specs.declared.Verdict.the-variants.{Accepted, Refused}
@@ -96,11 +96,6 @@ continuation-written c content n k h = (
       (renderContinuation c content, (length-continuation c content, l, a .0, a .1)),
   λ (rec, given). writing-iff n (renderContinuation c content) h .1 (subst Legal (sym (continuation-only c content rec given)) (inr (given .1))),
 )
-
--- a buffer of fewer than 133 bytes gets 14, and only zeros
-pub no-room : (n : ℕ) (rec : List ℕ) → n < 133 → (writing n rec ≡ Refused bufferTooShort) × (written n rec ≡ replicate n 0)
-unfolding writing writtenBy
-no-room n rec h = rw (lt-ltb n 133 h) (refl, refl)
 
 -- ---- what is read
 

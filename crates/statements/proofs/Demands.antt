@@ -27,21 +27,24 @@ use Rattle.parts.proofs.Theorems as parts
 use Rattle.routes.specs.Files.{fileVerdict}
 use Rattle.routes.specs.First.{First, FirstRecord}
 use Rattle.routes.specs.Legal.{LegalFile}
+use Rattle.routes.specs.Places.{Every}
 use Rattle.routes.specs.Sources.{records, inUse, sourcesOf}
 use Rattle.routes.specs.Stages.{nothing}
 use Rattle.routes.specs.Walk.{walkFrom}
 use Rattle.routes.proofs.Legality as routes
 use Rattle.routes.proofs.FirstLaws.{walk-refuses}
-use Rattle.corrections.specs.Reading.{Entry, refused, readLog, indexOf}
+use Rattle.corrections.specs.Reading.{Entry, refused, said, readLog, indexOf}
 use Rattle.corrections.specs.Text.{LegalLog, GoesWrong, RefusedLog}
 use Rattle.corrections.proofs.Legality as corrections
 use Rattle.corrections.proofs.Wrong.{refused-iff, one-place}
 use Rattle.history.specs.Apply.{run}
 use Rattle.applying.specs.Run.{byCorrection}
 use Rattle.applying.specs.Procedures.{procedures, logOf}
+use Rattle.applying.specs.Origin.{linesTaken, HandedBack}
 use Rattle.selection.specs.Pick.{wantedStage, everything, refusedBy, picked, outcomeVerdict, carried, logVerdict, pickOf, newBytes, filePick}
 use Rattle.selection.specs.Demand.{Demanded}
 use Rattle.selection.proofs.Demand.{picked-demand, pick-iff, log-runs}
+use Rattle.selection.proofs.Origins.{sources-handed}
 use Rattle.selection.proofs.Answers as answers
 use Rattle.statements.specs.Order.{readOrder, writeOrder, fileOrder, checkOrder, pickOrder, newFileOrder, FirstWanted, FirstCorrection}
 use Rattle.statements.proofs.OrderLaws as order
@@ -77,7 +80,7 @@ first-record recs r = walk-refuses r nothing 1 recs
 
 pub leftmost-field : (place : ℕ) (rec : List ℕ) (r : Refusal) → (stage (firstBadField rec) (fieldContent place) Accepted ≡ Refused r)
     ↔ ((c : ℕ) × (1 ≤ c) × (r ≡ fieldContent place c) × Leftmost rec c (layoutOf (kindOf rec)))
-leftmost-field = order.content-iff
+leftmost-field = order.content-refuses
 
 pub first-line : (log : List ℕ) (frozen : ℕ) (r : Refusal) → (readLog log frozen ≡ refused r) ↔ RefusedLog log frozen r
 first-line = refused-iff
@@ -86,12 +89,12 @@ pub one-column : (log : List ℕ) (r s : Refusal) → GoesWrong 0 1 log r → Go
 one-column = one-place
 
 pub first-wanted : (corrections : ℕ) (wanted : List ℕ) (r : Refusal) → (wantedStage corrections 1 wanted ≡ Refused r) ↔ FirstWanted corrections 1 wanted r
-first-wanted n = order.wanted-iff n 1
+first-wanted n = order.wanted-refuses n 1
 
 pub first-correction : (frozen log : List ℕ) (corrections : ℕ) (lines : List Entry) (r : Refusal)
     → (outcomeVerdict (carried frozen log everything corrections lines) ≡ Refused r)
     ↔ FirstCorrection frozen log 1 (byCorrection 1 corrections lines) (inUse (sourcesOf frozen)) r
-first-correction = order.corrections-iff
+first-correction = order.corrections-refuse
 
 -- On every refusal, 14 and 3, 4, 5 of writing among them, the buffer that was lent is nothing but zeros.
 
@@ -160,3 +163,9 @@ pick-is-right = picked-demand
 pub new-file-accepted : (frozen log wanted taken sources : List ℕ) → pickOf frozen log wanted ≡ picked taken sources
     → fileVerdict (newBytes frozen log (picked taken sources)) ≡ Accepted
 new-file-accepted = answers.file-accepted
+
+-- "from the last A line taken that put it in, otherwise from the frozen file": where each record of the new file is handed back from.
+pub sources-of-a-pick : (frozen log wanted taken sources : List ℕ) → pickOf frozen log wanted ≡ picked taken sources
+    → (n : ℕ) × (lines : List Entry) × (readLog log (length (records frozen)) ≡ said n lines)
+    × Every (HandedBack frozen log (linesTaken taken lines)) sources
+sources-of-a-pick = sources-handed

@@ -90,10 +90,10 @@ judged-order place rec =
     by kind.Continuation = refl
 
 -- Stage 3 refuses exactly at the first column of the leftmost field that holds nothing legal.
-pub content-iff : (place : ℕ) (rec : List ℕ) (r : Refusal) → (stage (firstBadField rec) (fieldContent place) Accepted ≡ Refused r)
+pub content-refuses : (place : ℕ) (rec : List ℕ) (r : Refusal) → (stage (firstBadField rec) (fieldContent place) Accepted ≡ Refused r)
     ↔ ((c : ℕ) × (1 ≤ c) × (r ≡ fieldContent place c) × Leftmost rec c (layoutOf (kindOf rec)))
 unfolding stage firstBadField
-content-iff place rec r = (
+content-refuses place rec r = (
   λ e.
       let c = firstBadField rec in
       split (eqb c 0) (λ z. absurd (never (sym (rw z at e))))
@@ -250,8 +250,8 @@ wanted-from {n} (behind {w = w} b f) =
     split (eqb w 0 || ltb n w) (λ t. absurd (b (not-in-log n w .0 t))) (λ t. rw t (wanted-from f))
 
 -- Wanted numbers are refused exactly by 12 at the first of them that is in no log of n corrections.
-pub wanted-iff : (n i : ℕ) (ws : List ℕ) (r : Refusal) → (wantedStage n i ws ≡ Refused r) ↔ FirstWanted n i ws r
-wanted-iff n i ws r = (wanted-to n i ws r, wanted-from)
+pub wanted-refuses : (n i : ℕ) (ws : List ℕ) (r : Refusal) → (wantedStage n i ws ≡ Refused r) ↔ FirstWanted n i ws r
+wanted-refuses n i ws r = (wanted-to n i ws r, wanted-from)
 
 -- all of some corrections, from number n on
 module _ (frozen log : List ℕ) where
@@ -290,7 +290,7 @@ module _ (frozen log : List ℕ) where
   run-from (behind q t f) = rw (q, t) (run-from f)
 
   -- The corrections of a log are refused exactly by the first that fails over what those before it left.
-  pub corrections-iff : (n : ℕ) (es : List Entry) (r : Refusal) → (outcomeVerdict (carried frozen log everything n es) ≡ Refused r)
+  pub corrections-refuse : (n : ℕ) (es : List Entry) (r : Refusal) → (outcomeVerdict (carried frozen log everything n es) ≡ Refused r)
       ↔ FirstCorrection frozen log 1 (byCorrection 1 n es) (inUse (sourcesOf frozen)) r
   unfolding carried allRun
-  corrections-iff n es r = (run-to 1 (byCorrection 1 n es) (inUse (sourcesOf frozen)) r, run-from)
+  corrections-refuse n es r = (run-to 1 (byCorrection 1 n es) (inUse (sourcesOf frozen)) r, run-from)
