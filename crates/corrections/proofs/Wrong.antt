@@ -35,15 +35,16 @@ module _ (log : List ℕ) (frozen : ℕ) where
       long : ltb 60000 (length log) ≡ true → readLog log frozen ≡ refused r → RefusedLog log frozen r
       long t e = subst (RefusedLog log frozen) (same-refusal (rw t at e)) (tooLong (ltb-true 60000 (length log) t))
 
+      none : read (length log) 1 0 (480 - frozen) 0 log ≡ refused r → GoesWrong 0 1 log r → (s : Refusal) → GoesPast 0 (480 - frozen) 1 log s → ⊥
+      none q g s p =
+          let same : s ≡ r = same-refusal (sym (past-read p (length log) 0 (omega arith) (omega arith)) ∙ q) in
+          omega (arith, past-number p, wrong-number g, ap (λ (x : Refusal). x .number) same)
+
       short : ltb 60000 (length log) ≡ false → readLog log frozen ≡ refused r → RefusedLog log frozen r
       short t e =
           let h : length log ≤ 60000 = ltb-false 60000 (length log) t in
           let q : read (length log) 1 0 (480 - frozen) 0 log ≡ refused r = rw t at e in
-          let no-past : GoesWrong 0 1 log r → (s : Refusal) → GoesPast 0 (480 - frozen) 1 log s → ⊥ =
-          λ g s p.
-          let same : s ≡ r = same-refusal (sym (past-read p (length log) 0 (omega arith) (omega arith)) ∙ q) in
-          omega (arith, past-number p, wrong-number g, ap (λ (x : Refusal). x .number) same) in
-          ⊎-elim (past h) (λ g. wrong h g (no-past g)) (goes (length log) 1 0 (480 - frozen) 0 log r (omega arith) (omega arith) q)
+          ⊎-elim (past h) (λ g. wrong h g (none q g)) (goes (length log) 1 0 (480 - frozen) 0 log r (omega arith) (omega arith) q)
 
       from : {s : Refusal} → RefusedLog log frozen s → readLog log frozen ≡ refused s
       from (tooLong h) = rw (lt-ltb 60000 (length log) h)
