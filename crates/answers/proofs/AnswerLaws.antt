@@ -1,15 +1,12 @@
 -- Laws of the answers: what the code has of a pick, of a new file and of a log's verdict is what the definitions say.
 -- Assumes nothing.
 use mathlib.Core.Path.{_≡_, refl, sym, ap, subst, _∙_}
-use mathlib.Core.Bool.{true}
 use mathlib.Core.List.{List, [], _∷_, _++_, map}
 use Prim.Native.Nat.{ℕ, _+_, _-_, _*_, _≤_}
 use native.Mathlib.Omega.{arith}
-use lib.Dec.{leb, ltb}
 use lib.ListN.{length, take, replicate, length-append, length-map}
 use lib.Seq.{take-at, length-take-le}
-use borrow.Author.Tests.{le-leb, ltb-false}
-use Rattle.slices.proofs.Cases.{split}
+use borrow.Author.Tests.{le-ltb}
 use Rattle.slices.specs.Part.{padded}
 use Rattle.refusals.proofs.VerdictLaws.{never, same-refusal}
 use Rattle.columns.specs.Patterns.{codes}
@@ -28,7 +25,7 @@ use Rattle.routes.proofs.SourceLaws.{own-count}
 use Rattle.selection.specs.Pick.{Pick, refusedBy, picked, logVerdict, pickOf, filePick, newRecords, newBytes, pickedAs}
 use Rattle.selection.specs.declared.Picked.{Picked}
 use Rattle.selection.proofs.Demand.{picked-demand}
-use Rattle.answers.specs.Answers.{noLine, countLine, takeLines, pickText, fileText, correctionCount, checkAnswer, pickAnswer, newfileAnswer, held, pickedText}
+use Rattle.answers.specs.Answers.{noLine, countLine, takeLines, pickText, fileText, correctionCount, checkAnswer, pickAnswer, newfileAnswer, pickedText}
 
 -- ---- the wanted numbers
 
@@ -67,50 +64,49 @@ module _ (f l want ws : List ℕ) (q : ws ≡ numbersIn 200 want) {p : Picked} (
 
 -- ---- a new file
 
-module _ (f l want ws : List ℕ) (n : ℕ) (q : ws ≡ numbersIn 200 want) {p : Picked} {out : List ℕ}
+module _ (f l want ws : List ℕ) (n : ℕ) (room : 63840 ≤ n) (q : ws ≡ numbersIn 200 want) {p : Picked} {out : List ℕ}
     (e : (p ≡ pickedAs (filePick f l n ws)) × (out ≡ padded n (newBytes f l (filePick f l n ws)))) where
-  same-answer : fileText f l (filePick f l n ws) ≡ newfileAnswer f l n want
-  unfolding newfileAnswer
-  same-answer = ap (λ (ns : List ℕ). fileText f l (filePick f l n ns)) q
-
-  -- what was picked, where a file of so many bytes has room
-  lent-picked : (ns xs : List ℕ) → filePick f l n ws ≡ picked ns xs → (63840 ≤ n) × (pickOf f l ws ≡ picked ns xs)
+  -- enough is lent, so it is a pick as any other
+  lent-pick : filePick f l n ws ≡ pickOf f l ws
   unfolding filePick
-  lent-picked ns xs z = split (ltb n 63840) (λ t. absurd (not-picked (rw t at z))) (λ t. (ltb-false n 63840 t, rw t at z))
-    where
-      not-picked : {r : Refusal} → refusedBy r ≡ picked ns xs → ⊥
-      not-picked h = let k : _≡_ {A = ℕ} 0 1 = cc in absurd (omega arith)
+  lent-pick = rw (le-ltb n 63840 room)
+
+  file-pick : p ≡ pickedAs (pickOf f l ws)
+  file-pick = e .0 ∙ ap pickedAs lent-pick
+
+  file-out : out ≡ padded n (newBytes f l (pickOf f l ws))
+  file-out = e .1 ∙ ap (λ (x : Pick). padded n (newBytes f l x)) lent-pick
+
+  same-answer : fileText f l (pickOf f l ws) ≡ newfileAnswer f l want
+  unfolding newfileAnswer
+  same-answer = ap (λ (ns : List ℕ). fileText f l (pickOf f l ns)) q
 
   pub file-few : p .records .count ≤ 480
   unfolding pickedAs sourcesFor
-  file-few = subst (λ (x : Picked). x .records .count ≤ 480) (sym (e .0)) (by (filePick f l n ws) refl)
+  file-few = subst (λ (x : Picked). x .records .count ≤ 480) (sym file-pick) (by (pickOf f l ws) refl)
     where
-      by : (x : Pick) → filePick f l n ws ≡ x → pickedAs x .records .count ≤ 480
+      by : (x : Pick) → pickOf f l ws ≡ x → pickedAs x .records .count ≤ 480
       by (refusedBy r) z = omega arith
-      by (picked ns xs) z = picked-demand f l ws ns xs (lent-picked ns xs z .1) .atMost
+      by (picked ns xs) z = picked-demand f l ws ns xs z .atMost
 
-  pub file-answered : p .verdict ≡ Accepted
-      → (p .records .count * 133 ≡ length (held n (newfileAnswer f l n want))) × (out ≡ padded n (held n (newfileAnswer f l n want)))
-  unfolding pickedAs fileText held sourcesFor newBytes newRecords
+  pub file-answered : p .verdict ≡ Accepted → (p .records .count * 133 ≡ length (newfileAnswer f l want)) × (out ≡ padded n (newfileAnswer f l want))
+  unfolding pickedAs fileText sourcesFor newBytes newRecords
   file-answered a =
-      subst (λ (t : List ℕ). (p .records .count * 133 ≡ length (held n t)) × (out ≡ padded n (held n t))) same-answer
-      (by (filePick f l n ws) refl (e .0) (e .1))
+      subst (λ (t : List ℕ). (p .records .count * 133 ≡ length t) × (out ≡ padded n t)) same-answer (by (pickOf f l ws) refl file-pick file-out)
     where
-      by : (x : Pick) → filePick f l n ws ≡ x → p ≡ pickedAs x → out ≡ padded n (newBytes f l x)
-          → (p .records .count * 133 ≡ length (held n (fileText f l x))) × (out ≡ padded n (held n (fileText f l x)))
+      by : (x : Pick) → pickOf f l ws ≡ x → p ≡ pickedAs x → out ≡ padded n (newBytes f l x)
+          → (p .records .count * 133 ≡ length (fileText f l x)) × (out ≡ padded n (fileText f l x))
       by (refusedBy r) z c o = absurd (never (sym (ap (λ (x : Picked). x .verdict) c) ∙ a))
       by (picked ns xs) z c o =
-          let s = lent-picked ns xs z in
-          let d = picked-demand f l ws ns xs (s .1) in
+          let d = picked-demand f l ws ns xs z in
           let k : length (newBytes f l (picked ns xs)) ≡ length xs * 133 = omega (arith, length-lines (map (recordAt f l) xs) (d .wide), length-map xs (recordAt f l)) in
-          let t : leb (length (newBytes f l (picked ns xs))) n ≡ true = le-leb (length (newBytes f l (picked ns xs))) n (omega (arith, k, d .atMost, s .0)) in
-          rw t (ap (λ (x : Picked). x .records .count * 133) c ∙ sym k, o)
+          (ap (λ (x : Picked). x .records .count * 133) c ∙ sym k, o)
 
   -- on a refusal the buffer is clear for its line
   module _ {r : Refusal} (a : p .verdict ≡ Refused r) where
-    pub refused-text : noLine r ≡ newfileAnswer f l n want
+    pub refused-text : noLine r ≡ newfileAnswer f l want
     unfolding pickedAs fileText
-    refused-text = by (filePick f l n ws) (e .0) ∙ same-answer
+    refused-text = by (pickOf f l ws) file-pick ∙ same-answer
       where
         by : (x : Pick) → p ≡ pickedAs x → noLine r ≡ fileText f l x
         by (refusedBy s) c = ap noLine (same-refusal (sym a ∙ ap (λ (x : Picked). x .verdict) c))
@@ -118,7 +114,7 @@ module _ (f l want ws : List ℕ) (n : ℕ) (q : ws ≡ numbersIn 200 want) {p :
 
     pub refused-clear : out ≡ replicate n 0
     unfolding pickedAs newBytes newRecords lines
-    refused-clear = by (filePick f l n ws) (e .0) (e .1)
+    refused-clear = by (pickOf f l ws) file-pick file-out
       where
         by : (x : Pick) → p ≡ pickedAs x → out ≡ padded n (newBytes f l x) → out ≡ replicate n 0
         by (refusedBy s) c o = let z : n - 0 ≡ n = omega arith in o ∙ rw z

@@ -1,15 +1,15 @@
--- How long the answers are: none is ever too long for the buffers that the programs lend.
+-- How long the answers are: each fits in what has to be lent for it, so one that is written is whole; and where too little is lent there is none.
 -- Assumes nothing.
 use mathlib.Core.Path.{_≡_, refl, sym, ap, subst}
 use mathlib.Core.List.{List, [], _∷_, _++_, map}
 use Prim.Native.Nat.{ℕ, zero, suc, _+_, _-_, _*_, _≤_, _<_}
 use native.Mathlib.Omega.{arith}
 use lib.ListN.{length, take, replicate, length-append, length-map}
-use lib.Seq.{length-take-le}
-use lib.Dec.{leb}
-use borrow.Author.Tests.{le-leb, leb-true}
+use lib.Seq.{take-at, length-take-le}
+use lib.Dec.{ltb}
+use borrow.Author.Tests.{ltb-false}
 use Rattle.slices.proofs.Cases.{split}
-use Rattle.slices.specs.Part.{padded}
+use Rattle.refusals.proofs.VerdictLaws.{never}
 use Rattle.refusals.specs.declared.Verdict.{Verdict}
 use Rattle.refusals.specs.declared.Verdict.the-variants.{Accepted, Refused}
 use Rattle.digits.specs.Decimal.{decimal}
@@ -22,9 +22,10 @@ use Rattle.wanted.specs.Numbers.{numbersIn}
 use Rattle.routes.specs.Places.{Every}
 use Rattle.routes.specs.Sources.{recordAt, records}
 use Rattle.routes.proofs.Lines.{length-lines}
-use Rattle.selection.specs.Pick.{membersFrom, picked, pickOf, Pick, refusedBy, filePick, newBytes, newRecords, logVerdict}
+use Rattle.selection.specs.Pick.{membersFrom, picked, pickOf, Pick, refusedBy, newBytes, newRecords, logVerdict}
 use Rattle.selection.proofs.Demand.{picked-demand}
-use Rattle.answers.specs.Answers.{noLine, countLine, takeLine, takeLines, pickText, held, tabbed, pickAnswer, newfileAnswer, checkAnswer, fileText, verdictText, correctionCount}
+use Rattle.answers.specs.Answers.{noLine, countLine, takeLine, takeLines, pickText, tabbed, pickAnswer, newfileAnswer, checkAnswer, fileText, verdictText, correctionCount, answered, filled}
+use Rattle.answers.specs.declared.Answer.{Answer}
 
 length-tabbed : (n : ℕ) → n < 1000 → length (tabbed n) ≤ 4
 unfolding tabbed
@@ -102,6 +103,8 @@ file-length f l ws ns xs e =
     let d = picked-demand f l ws ns xs e in
     omega (arith, length-lines (map (recordAt f l) xs) (d .wide), length-map xs (recordAt f l), d .atMost)
 
+-- ---- every answer fits in what has to be lent for it
+
 refused-text : (r : Refusal) → noLine r ≡ pickText (refusedBy r)
 unfolding pickText
 refused-text r = refl
@@ -110,49 +113,72 @@ refused-file : (f l : List ℕ) (r : Refusal) → noLine r ≡ fileText f l (ref
 unfolding fileText
 refused-file f l r = refl
 
--- ---- the programs lend enough: an answer is always written whole
-
-fits : (room : ℕ) (bytes : List ℕ) → length bytes ≤ room → held room bytes ≡ bytes
-unfolding held
-fits room bytes h = rw (le-leb (length bytes) room h)
-
-pub pick-held : (frozen log want : List ℕ) → held 1813 (pickAnswer frozen log want) ≡ pickAnswer frozen log want
+pub pick-fits : (frozen log want : List ℕ) → length (pickAnswer frozen log want) ≤ 1813
 unfolding pickAnswer
-pick-held f l want = fits 1813 (pickText (pickOf f l (numbersIn 200 want))) (by (pickOf f l (numbersIn 200 want)) refl)
+pick-fits f l want = by (pickOf f l (numbersIn 200 want)) refl
   where
     by : (x : Pick) → pickOf f l (numbersIn 200 want) ≡ x → length (pickText x) ≤ 1813
     by (refusedBy r) e = subst (λ (t : List ℕ). length t ≤ 1813) (refused-text r) (omega (arith, no-length r))
     by (picked ns xs) e = pick-length f l (numbersIn 200 want) ns xs e
 
-pub newfile-held : (frozen log want : List ℕ) → held 63840 (newfileAnswer frozen log 63840 want) ≡ newfileAnswer frozen log 63840 want
-unfolding newfileAnswer filePick
-newfile-held f l want = fits 63840 (fileText f l (pickOf f l (numbersIn 200 want))) (by (pickOf f l (numbersIn 200 want)) refl)
+pub newfile-fits : (frozen log want : List ℕ) → length (newfileAnswer frozen log want) ≤ 63840
+unfolding newfileAnswer
+newfile-fits f l want = by (pickOf f l (numbersIn 200 want)) refl
   where
     by : (x : Pick) → pickOf f l (numbersIn 200 want) ≡ x → length (fileText f l x) ≤ 63840
     by (refusedBy r) e = subst (λ (t : List ℕ). length t ≤ 63840) (refused-file f l r) (omega (arith, no-length r))
     by (picked ns xs) e = file-length f l (numbersIn 200 want) ns xs e
 
-pub check-held : (frozen log : List ℕ) → held 1813 (checkAnswer frozen log) ≡ checkAnswer frozen log
+pub check-fits : (frozen log : List ℕ) → length (checkAnswer frozen log) ≤ 66
 unfolding checkAnswer
-check-held f l = fits 1813 _ (by (logVerdict f l))
+check-fits f l = by (logVerdict f l)
   where
     ok : List ℕ
     ok = countLine (codes "ok") (length (records f)) (correctionCount (readLog l (length (records f))))
 
-    by : (v : Verdict) → length (verdictText v ok) ≤ 1813
+    by : (v : Verdict) → length (verdictText v ok) ≤ 66
     by Accepted = omega (arith, any-counts (codes "ok") (length (records f)) (correctionCount (readLog l (length (records f)))), length-ok)
-    by (Refused r) = omega (arith, no-length r)
+    by (Refused r) = no-length r
 
--- What is left in a buffer is no longer than the buffer, so an answer's count counts bytes in front of it.
-held-within : (room : ℕ) (bytes : List ℕ) → length (held room bytes) ≤ room
-unfolding held
-held-within room bytes =
-    split (leb (length bytes) room) (λ t. rw t (leb-true (length bytes) room t)) (λ t. rw t (omega arith))
+-- ---- so an answer is whole, or there is none
 
-module _ (room : ℕ) (bytes : List ℕ) {out : List ℕ} {n : ℕ} (e : (n ≡ length (held room bytes)) × (out ≡ padded room (held room bytes))) where
-  pub answer-within : n ≤ length out
-  answer-within =
-      omega (arith, e .0, ap length (e .1), held-within room bytes, length-append (held room bytes) (replicate (room - length (held room bytes)) 0))
+module _ (longest lent : ℕ) (answer : List ℕ) where
+  zeros-where-refused : (r : Refusal) → answered longest lent answer .verdict ≡ Refused r → filled longest lent answer ≡ replicate lent 0
+  unfolding answered filled
+  zeros-where-refused r e = split (ltb lent longest) (λ t. rw t) (λ t. absurd (never (sym (rw t at e))))
 
-  pub answer-counted : n ≡ length (take n out)
-  answer-counted = sym (length-take-le n out answer-within)
+  -- Otherwise the bytes that are counted are the answer.
+  pub whole-where-accepted : answered longest lent answer .verdict ≡ Accepted → take (answered longest lent answer .length) (filled longest lent answer) ≡ answer
+  unfolding answered filled
+  whole-where-accepted e =
+      split (ltb lent longest) (λ t. absurd (never (rw t at e)))
+      (λ t. rw t (take-at answer (replicate (lent - length answer) 0) (length answer) refl))
+
+  -- an answer is counted within the buffer, which keeps its length
+  counted-within : length answer ≤ longest → answered longest lent answer .length ≤ length (filled longest lent answer)
+  unfolding answered filled
+  counted-within h =
+      split (ltb lent longest) (λ t. rw t (omega arith))
+      (λ t. rw t (omega (arith, length-append answer (replicate (lent - length answer) 0))))
+
+-- On a refusal the buffer is nothing but zeros.
+module _ (lent : ℕ) (frozen log want : List ℕ) (r : Refusal) where
+  pub pick-zeros : answered 1813 lent (pickAnswer frozen log want) .verdict ≡ Refused r → filled 1813 lent (pickAnswer frozen log want) ≡ replicate lent 0
+  pick-zeros = zeros-where-refused 1813 lent (pickAnswer frozen log want) r
+
+  pub newfile-zeros : answered 63840 lent (newfileAnswer frozen log want) .verdict ≡ Refused r
+      → filled 63840 lent (newfileAnswer frozen log want) ≡ replicate lent 0
+  newfile-zeros = zeros-where-refused 63840 lent (newfileAnswer frozen log want) r
+
+pub check-zeros : (lent : ℕ) (frozen log : List ℕ) (r : Refusal) → answered 66 lent (checkAnswer frozen log) .verdict ≡ Refused r
+    → filled 66 lent (checkAnswer frozen log) ≡ replicate lent 0
+check-zeros lent frozen log r = zeros-where-refused 66 lent (checkAnswer frozen log) r
+
+-- Whatever is lent, what is counted lies in front of it.
+module _ (longest lent : ℕ) (answer : List ℕ) {out : List ℕ} {a : Answer} (fits : length answer ≤ longest)
+    (e : (a ≡ answered longest lent answer) × (out ≡ filled longest lent answer)) where
+  pub answer-within : a .length ≤ length out
+  answer-within = omega (arith, ap (λ (x : Answer). x .length) (e .0), ap length (e .1), counted-within longest lent answer fits)
+
+  pub answer-counted : a .length ≡ length (take (a .length) out)
+  answer-counted = sym (length-take-le (a .length) out answer-within)

@@ -1,22 +1,20 @@
--- Laws of what is written: one piece behind another, a word, a digit; and what is left of an answer in the buffer.
+-- Laws of what is written: one piece behind another, a word, a digit; and what is given for an answer and left of it in the buffer.
 -- Assumes nothing.
 use mathlib.Core.Path.{_≡_, refl, sym, ap, ap₂, _∙_}
-use mathlib.Core.Bool.{true, false, cond}
 use mathlib.Core.List.{List, [], _∷_, _++_}
-use Prim.Native.Nat.{ℕ, _+_, _-_, _/_, _%_, _≤_, _<_}
+use Prim.Native.Nat.{ℕ, _+_, _/_, _%_, _≤_, _<_}
 use native.Mathlib.Omega.{arith}
-use lib.Dec.{leb}
-use lib.ListN.{length, set, replicate, length-append, length-replicate}
+use lib.ListN.{length, set, replicate, length-append}
 use lib.Seq.{sets, length-sets}
-use borrow.Author.Tests.{leb-true}
+use borrow.Author.Tests.{lt-ltb, le-ltb}
 use Rattle.slices.specs.Part.{part, padded}
-use Rattle.slices.proofs.Cases.{split}
 use Rattle.slices.proofs.PartLaws.{part-all}
 use Rattle.slices.proofs.WriteLaws.{sets-append, stored-front}
 use Rattle.digits.specs.Decimal.{decimal}
 use Rattle.digits.proofs.DecimalLaws.{Short, decimal-one, decimal-more}
-use Rattle.answers.specs.Answers.{held, tabbed}
+use Rattle.answers.specs.Answers.{answered, filled, tabbed, tooShort, whole}
 use Rattle.answers.specs.Written.{Wrote}
+use Rattle.answers.specs.declared.Answer.{Answer}
 
 -- ---- pieces
 
@@ -56,21 +54,26 @@ pub wrote-tabbed : {a b c : List ℕ} {at end : ℕ} (n : ℕ) → b ≡ set a (
 unfolding tabbed
 wrote-tabbed n e w = wrote-then (wrote-byte e) w
 
--- ---- what is left
+-- ---- what is given, and what is left in the buffer
 
--- an answer among zeros, and nothing where it has no room
-pub answered : (n : ℕ) {bytes clean mid out : List ℕ} {end r : ℕ} → clean ≡ replicate n 0 → Wrote clean mid 0 bytes end
-    → (r ≡ cond (leb end (length mid)) end 0) × (out ≡ cond (leb end (length mid)) mid (replicate (length mid) 0))
-    → (r ≡ length (held n bytes)) × (out ≡ padded n (held n bytes))
-unfolding held
-answered n {bytes} {clean} {mid} {out} {end} {r} z w (p, q) =
-    let l : length mid ≡ n = wrote-length w ∙ ap length z ∙ length-replicate n 0 in
-    let e : end ≡ length bytes = w .stops ∙ (let k : 0 + length bytes ≡ length bytes = omega arith in k) in
-    split (leb (length bytes) n)
-    (λ t.
-    let u : leb end (length mid) ≡ true = rw (e, l) t in
-    rw t (p ∙ rw u e, q ∙ rw u (w .holds ∙ ap (λ (x : List ℕ). sets x 0 bytes) z ∙ stored-front 0 n bytes (leb-true (length bytes) n t))))
-    (λ t.
-    let u : leb end (length mid) ≡ false = rw (e, l) t in
-    let k : n - 0 ≡ n = omega arith in
-    rw (t, k) (p ∙ rw u, q ∙ rw (u, l)))
+-- too little is lent
+pub left-clear : (longest n : ℕ) (answer : List ℕ) {out : List ℕ} {a : Answer} → n < longest → (a ≡ tooShort) × (out ≡ replicate n 0)
+    → (a ≡ answered longest n answer) × (out ≡ filled longest n answer)
+unfolding answered filled
+left-clear longest n answer h e = rw (lt-ltb n longest h) e
+
+-- enough is lent, and what is counted is in front
+pub left-whole : (longest n : ℕ) (answer : List ℕ) {out : List ℕ} {a : Answer} {end : ℕ} → longest ≤ n → (end ≡ length answer) × (out ≡ padded n answer) → a ≡ whole end
+    → (a ≡ answered longest n answer) × (out ≡ filled longest n answer)
+unfolding answered filled
+left-whole longest n answer h (l, o) e = rw (le-ltb n longest h) (e ∙ ap whole l, o)
+
+-- and what was written among zeros
+pub left-wrote : (longest n : ℕ) {answer clean out : List ℕ} {a : Answer} {end : ℕ} → longest ≤ n → clean ≡ replicate n 0 → Wrote clean out 0 answer end
+    → length answer ≤ longest → a ≡ whole end → (a ≡ answered longest n answer) × (out ≡ filled longest n answer)
+left-wrote longest n {answer} h z w fits e =
+    left-whole longest n answer h (
+      w .stops ∙ (let k : 0 + length answer ≡ length answer = omega arith in k),
+      w .holds ∙ ap (λ (x : List ℕ). sets x 0 answer) z ∙ stored-front 0 n answer (omega arith),
+    )
+    e

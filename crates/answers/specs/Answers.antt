@@ -4,19 +4,21 @@ use Prim.Native.Nat.{ℕ}
 use mathlib.Core.Path.{_≡_}
 use mathlib.Core.Bool.{cond}
 use mathlib.Core.List.{List, [], _∷_, _++_}
-use lib.Dec.{leb}
-use lib.ListN.{length, take}
+use lib.Dec.{ltb}
+use lib.ListN.{length, take, replicate}
 use Rattle.slices.specs.Part.{padded}
 use Rattle.digits.specs.Decimal.{decimal}
 use Rattle.columns.specs.Patterns.{codes}
+use Rattle.refusals.specs.Table.{bufferTooShort}
 use Rattle.refusals.specs.declared.Refusal.{Refusal}
 use Rattle.refusals.specs.declared.Verdict.{Verdict}
 use Rattle.refusals.specs.declared.Verdict.the-variants.{Accepted, Refused}
 use Rattle.corrections.specs.Reading.{Reading, refused, said, readLog}
 use Rattle.routes.specs.Sources.{records}
 use Rattle.wanted.specs.Numbers.{numbersIn}
-use Rattle.selection.specs.Pick.{Pick, refusedBy, picked, logVerdict, pickOf, filePick, newBytes}
+use Rattle.selection.specs.Pick.{Pick, refusedBy, picked, logVerdict, pickOf, newBytes}
 use Rattle.selection.specs.declared.Picked.{Picked}
+use Rattle.answers.specs.declared.Answer.{Answer}
 
 -- ---- lines
 
@@ -70,18 +72,29 @@ checkAnswer frozen log =
 unfoldable pub pickAnswer : (frozen log want : List ℕ) → List ℕ
 pickAnswer frozen log want = pickText (pickOf frozen log (numbersIn 200 want))
 
--- where so many bytes are lent for the file
-unfoldable pub newfileAnswer : (frozen log : List ℕ) (lent : ℕ) (want : List ℕ) → List ℕ
-newfileAnswer frozen log lent want = fileText frozen log (filePick frozen log lent (numbersIn 200 want))
+unfoldable pub newfileAnswer : (frozen log want : List ℕ) → List ℕ
+newfileAnswer frozen log want = fileText frozen log (pickOf frozen log (numbersIn 200 want))
 
--- an answer that a buffer has no room for is not written at all
-unfoldable pub held : (room : ℕ) → List ℕ → List ℕ
-held room bytes = cond (leb (length bytes) room) bytes []
+-- ---- in a lent buffer
 
--- a buffer is left with the answer, or with nothing where it has no room, and zeros behind; so many bytes are counted
-abbrev pub Leaves : (before after : List ℕ) → (answer : List ℕ) → (counted : ℕ) → Type 0
-Leaves before after answer counted =
-    (counted ≡ length (held (length before) answer)) × (after ≡ padded (length before) (held (length before) answer))
+-- 14 at (0, 0)
+abbrev pub tooShort : Answer
+tooShort = record { verdict = Refused bufferTooShort; length = 0 }
+
+abbrev pub whole : (bytes : ℕ) → Answer
+whole n = record { verdict = Accepted; length = n }
+
+-- where fewer bytes are lent than the longest answer needs, none is given, whatever it would be
+unfoldable pub answered : (longest lent : ℕ) (answer : List ℕ) → Answer
+answered longest lent answer = cond (ltb lent longest) tooShort (whole (length answer))
+
+-- and the buffer is nothing but zeros; else it has the answer, and zeros past it
+unfoldable pub filled : (longest lent : ℕ) (answer : List ℕ) → List ℕ
+filled longest lent answer = cond (ltb lent longest) (replicate lent 0) (padded lent answer)
+
+abbrev pub Leaves : (longest : ℕ) (before after : List ℕ) (answer : List ℕ) → Answer → Type 0
+Leaves longest before after answer given =
+    (given ≡ answered longest (length before) answer) × (after ≡ filled longest (length before) answer)
 
 -- ---- as the code has it
 

@@ -3,22 +3,26 @@
 mod pieces;
 mod texts;
 
-ghost use lib.ListN.{length};
-ghost use Rattle.answers.specs.Answers.{pickAnswer, newfileAnswer, checkAnswer, Leaves};
+ghost use mathlib.Core.Path.{_≡_};
+ghost use lib.ListN.{length, replicate};
+ghost use Rattle.answers.specs.Answers.{pickAnswer, newfileAnswer, checkAnswer, tooShort, whole, Leaves};
 use corrections::LONGEST_LOG;
 use corrections::MOST_CORRECTIONS;
-use pieces::kept;
+use refusals::Refusal;
 use refusals::Verdict;
 use routes::LINE_WIDTH;
 use texts::put_counts;
 use texts::put_no;
 use texts::put_picked;
 
-// No answer of `pick_answer` or `check_answer` is longer: 13 bytes of counts, and 9 for each of 200 corrections.
-pub const LONGEST_LINES: usize = 13 + 9 * MOST_CORRECTIONS;
+// No answer of `pick_answer` is longer: 13 bytes of counts, and 9 for each of 200 corrections.
+pub const LONGEST_PICK: usize = 13 + 9 * MOST_CORRECTIONS;
 
-// No new file is longer; what is shorter is too short for one.
+// No new file is longer.
 pub const LONGEST_FILE: usize = routes::LONGEST_FILE;
+
+// No line of a refusal is longer, whatever its numbers, and no two counts are.
+pub const LONGEST_CHECK: usize = 66;
 
 // As much as the programs read of frozen.txt, log.txt and want.txt: one byte past the limit, so that a file that is too long is seen to be.
 pub const FROZEN_READ: usize = LONGEST_FILE + 1;
@@ -27,23 +31,56 @@ pub const LOG_READ: usize = LONGEST_LOG + 1;
 
 pub const WANT_READ: usize = 4 * MOST_CORRECTIONS + 1;
 
-// What `pick` prints: the corrections taken, or the refusal. Where the buffer has no room for it nothing is written; zeros past it.
-pub fn pick_answer<'a>(frozen: &'a [u8], log: &'a [u8], want: &[u8], out: &mut [u8]) -> usize
-    ensures { λ r. ⌜ Leaves (now (out .entry)) (now (out .exit)) (pickAnswer (now (frozen .entry)) (now (log .entry)) (now (want .entry))) r ⌝ }
+// Whether an answer was written, and how many bytes it has; the line of a refusal is written as any other. Where fewer bytes are lent than the
+// longest answer needs, it is refused by 14, has no bytes, and the buffer is nothing but zeros.
+pub struct Answer {
+    pub verdict: Verdict,
+    pub length: usize,
+}
+
+// The answer where too little is lent: every byte of the buffer is made 0.
+fn too_short(out: &mut [u8]) -> Answer
+    ensures { λ r. ⌜ (r ≡ tooShort) × (now (out .exit) ≡ replicate (length (now (out .entry))) 0) ⌝ }
 {
+    slices::clear(&mut *out);
+    Answer {
+        verdict: Verdict::Refused(Refusal::buffer_too_short()),
+        length: 0,
+    }
+}
+
+// The answer that is written in so many bytes.
+fn written(length: usize) -> Answer
+    ensures { λ r. ⌜ r ≡ whole length ⌝ }
+{
+    Answer {
+        verdict: Verdict::Accepted,
+        length,
+    }
+}
+
+// What `pick` prints: the corrections taken, or the refusal. Zeros past it.
+pub fn pick_answer<'a>(frozen: &'a [u8], log: &'a [u8], want: &[u8], out: &mut [u8]) -> Answer
+    ensures { λ r. ⌜ Leaves 1813 (now (out .entry)) (now (out .exit)) (pickAnswer (now (frozen .entry)) (now (log .entry)) (now (want .entry))) r ⌝ }
+{
+    if out.len() < LONGEST_PICK {
+        return too_short(&mut *out);
+    }
     let wanted = wanted::numbers(want);
     let count = wanted.count;
     let numbers = wanted.at;
     let picked = selection::pick(frozen, log, &numbers[..count]);
     slices::clear(&mut *out);
-    let end = put_picked(picked, &mut *out);
-    kept(&mut *out, end)
+    written(put_picked(picked, &mut *out))
 }
 
-// What `newfile` prints: the new file, or the refusal, which is 14 where the buffer is shorter than the longest file.
-pub fn newfile_answer<'a>(frozen: &'a [u8], log: &'a [u8], want: &[u8], out: &mut [u8]) -> usize
-    ensures { λ r. ⌜ Leaves (now (out .entry)) (now (out .exit)) (newfileAnswer (now (frozen .entry)) (now (log .entry)) (length (now (out .entry))) (now (want .entry))) r ⌝ }
+// What `newfile` prints: the new file, or the refusal. Zeros past it.
+pub fn newfile_answer<'a>(frozen: &'a [u8], log: &'a [u8], want: &[u8], out: &mut [u8]) -> Answer
+    ensures { λ r. ⌜ Leaves 63840 (now (out .entry)) (now (out .exit)) (newfileAnswer (now (frozen .entry)) (now (log .entry)) (now (want .entry))) r ⌝ }
 {
+    if out.len() < LONGEST_FILE {
+        return too_short(&mut *out);
+    }
     let wanted = wanted::numbers(want);
     let count = wanted.count;
     let numbers = wanted.at;
@@ -51,31 +88,27 @@ pub fn newfile_answer<'a>(frozen: &'a [u8], log: &'a [u8], want: &[u8], out: &mu
     let verdict = picked.verdict;
     let records = picked.records;
     match verdict {
-        Verdict::Accepted => records.count * LINE_WIDTH,
-        Verdict::Refused(r) => {
-            let end = put_no(r, &mut *out);
-            kept(&mut *out, end)
-        }
+        Verdict::Accepted => written(records.count * LINE_WIDTH),
+        Verdict::Refused(r) => written(put_no(r, &mut *out)),
     }
 }
 
-// What `check` prints: how many frozen records and how many corrections there are, or the refusal.
-pub fn check_answer<'a>(frozen: &'a [u8], log: &'a [u8], out: &mut [u8]) -> usize
-    ensures { λ r. ⌜ Leaves (now (out .entry)) (now (out .exit)) (checkAnswer (now (frozen .entry)) (now (log .entry))) r ⌝ }
+// What `check` prints: how many frozen records and how many corrections there are, or the refusal. Zeros past it.
+pub fn check_answer<'a>(frozen: &'a [u8], log: &'a [u8], out: &mut [u8]) -> Answer
+    ensures { λ r. ⌜ Leaves 66 (now (out .entry)) (now (out .exit)) (checkAnswer (now (frozen .entry)) (now (log .entry))) r ⌝ }
 {
-    let verdict = selection::check_log(frozen, log);
+    if out.len() < LONGEST_CHECK {
+        return too_short(&mut *out);
+    }
     slices::clear(&mut *out);
+    let verdict = selection::check_log(frozen, log);
     match verdict {
         Verdict::Accepted => {
             let sources = routes::sources_of(frozen);
             let records = sources.count;
             let index = corrections::index_of(log, records);
-            let end = put_counts(b"ok", records, index.corrections, &mut *out);
-            kept(&mut *out, end)
+            written(put_counts(b"ok", records, index.corrections, &mut *out))
         }
-        Verdict::Refused(r) => {
-            let end = put_no(r, &mut *out);
-            kept(&mut *out, end)
-        }
+        Verdict::Refused(r) => written(put_no(r, &mut *out)),
     }
 }

@@ -1,10 +1,7 @@
 // The pieces that lines are put together from, each written behind the one before it; what is past a buffer's end is dropped.
 // Assumes of its callers, all in this crate, offsets that are far from the last number there is.
-ghost use mathlib.Core.Path.{_≡_};
-ghost use mathlib.Core.Bool.{cond};
 ghost use Prim.Native.Nat.{_+_, _≤_};
-ghost use lib.Dec.{leb};
-ghost use lib.ListN.{length, replicate};
+ghost use lib.ListN.{length};
 ghost use Rattle.digits.specs.Decimal.{decimal};
 ghost use Rattle.answers.specs.Answers.{tabbed};
 ghost use Rattle.answers.specs.Written.{Wrote};
@@ -40,15 +37,4 @@ pub(crate) fn put_tabbed(n: usize, out: &mut [u8], at: usize) -> usize
 {
     slices::put_after(out, at, 0, b'\t');
     put_decimal(n, out, at + 1)
-}
-
-// Leaves what was written up to an offset where the buffer had room for it, and otherwise nothing; answers how many bytes are left.
-pub(crate) fn kept(out: &mut [u8], end: usize) -> usize
-    ensures { λ r. ⌜ (r ≡ cond (leb end (length (now (out .entry)))) end 0) × (now (out .exit) ≡ cond (leb end (length (now (out .entry)))) (now (out .entry)) (replicate (length (now (out .entry))) 0)) ⌝ }
-{
-    if out.len() < end {
-        slices::clear(out);
-        return 0;
-    }
-    end
 }

@@ -8,8 +8,9 @@ fn main() {
     let f = folder::read(b"frozen.txt", &mut frozen);
     let mut log = [0u8; answers::LOG_READ];
     let l = folder::read(b"log.txt", &mut log);
-    let mut out = [0u8; answers::LONGEST_LINES];
-    let n = answers::check_answer(&frozen[..f], &log[..l], &mut out);
+    let mut out = [0u8; answers::LONGEST_CHECK];
+    let answer = answers::check_answer(&frozen[..f], &log[..l], &mut out);
+    let n = answer.length;
     if !io::write_all(STDOUT_FILENO, &out[..n]) {
         os::fail(b"standard output");
     }

@@ -11,7 +11,8 @@ fn main() {
     let mut want = [0u8; answers::WANT_READ];
     let w = folder::read(b"want.txt", &mut want);
     let mut out = [0u8; answers::LONGEST_FILE];
-    let n = answers::newfile_answer(&frozen[..f], &log[..l], &want[..w], &mut out);
+    let answer = answers::newfile_answer(&frozen[..f], &log[..l], &want[..w], &mut out);
+    let n = answer.length;
     if !io::write_all(STDOUT_FILENO, &out[..n]) {
         os::fail(b"standard output");
     }

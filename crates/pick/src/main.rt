@@ -10,8 +10,9 @@ fn main() {
     let l = folder::read(b"log.txt", &mut log);
     let mut want = [0u8; answers::WANT_READ];
     let w = folder::read(b"want.txt", &mut want);
-    let mut out = [0u8; answers::LONGEST_LINES];
-    let n = answers::pick_answer(&frozen[..f], &log[..l], &want[..w], &mut out);
+    let mut out = [0u8; answers::LONGEST_PICK];
+    let answer = answers::pick_answer(&frozen[..f], &log[..l], &want[..w], &mut out);
+    let n = answer.length;
     if !io::write_all(STDOUT_FILENO, &out[..n]) {
         os::fail(b"standard output");
     }

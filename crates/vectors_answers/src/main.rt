@@ -81,11 +81,11 @@ fn print_answers<'a>(
     print_number(number);
     print(b"\n");
     let picked = answers::pick_answer(frozen, log, want, lines);
-    print_first(lines, picked);
+    print_first(lines, picked.length);
     let made = answers::newfile_answer(frozen, log, want, file);
-    print_file(file, made);
+    print_file(file, made.length);
     let checked = answers::check_answer(frozen, log, lines);
-    print_first(lines, checked);
+    print_first(lines, checked.length);
 }
 
 // The length that is stored at this place.
@@ -154,7 +154,7 @@ fn main() {
     let mut frozen = [0u8; answers::FROZEN_READ];
     let mut log = [0u8; answers::LOG_READ];
     let mut want = [0u8; answers::WANT_READ];
-    let mut lines = [0u8; answers::LONGEST_LINES];
+    let mut lines = [0u8; answers::LONGEST_PICK];
     let mut file = [0u8; answers::LONGEST_FILE];
     print_folders(fd, &mut frozen, &mut log, &mut want, &mut lines, &mut file);
     libc::close(fd);

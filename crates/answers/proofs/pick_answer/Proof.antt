@@ -1,9 +1,19 @@
--- The text of the pick, where it has room. Assumes nothing.
+-- The text of the pick, where enough is lent. Assumes nothing.
 use Rattle.answers.proofs.AnswerLaws.{wanted-within, wanted-counted, wanted-numbers, taken-within, pick-text}
-use Rattle.answers.proofs.WroteLaws.{answered}
+use Rattle.answers.proofs.Lengths.{pick-fits}
+use Rattle.answers.proofs.WroteLaws.{left-clear, left-wrote}
 use borrow.Author.Needs.{needs}
 use Rattle.answers.proofs.pick_answer.Statement.{statement}
 use Rattle.answers.proofs.pick_answer.Tie as tie
+
+too-short-requires : tie.Need-too-short-requires
+too-short-requires c κs = search needs
+
+same-length : tie.Need-same-length
+same-length c = search needs
+
+returns : tie.Need-returns
+returns c = left-clear _ _ _ (c .before .before .before .before .if1 .taken) (c .before .before .too-short .ensures)
 
 numbers-requires : tie.Need-numbers-requires
 numbers-requires c κs = search needs
@@ -25,31 +35,34 @@ put-picked-requires c κs =
     let picked = c .before .before .before .before .before in
     taken-within _ _ _ _ (wanted-numbers _ (picked .before .before .before .numbers .ensures)) (picked .pick .ensures)
 
-kept-requires : tie.Need-kept-requires
-kept-requires c κs = search needs
+written-requires : tie.Need-written-requires
+written-requires c κs = search needs
 
-same-length : tie.Need-same-length
-same-length c = search needs
+same-length-2 : tie.Need-same-length-2
+same-length-2 c = search needs
 
-returns : tie.Need-returns
-returns c =
-    let left = c .before .before in
-    let put = left .before .before .before .before in
+returns-2 : tie.Need-returns-2
+returns-2 c =
+    let put = c .before .before .before in
     let clean = put .before .before .before .before in
     let picked = clean .before .before in
-    let text = pick-text _ _ _ _ (wanted-numbers _ (picked .before .before .before .numbers .ensures)) (picked .pick .ensures) in
-    answered _ (clean .clear .ensures) (rw text at (put .put-picked .ensures)) (left .kept .ensures)
+    let numbers = picked .before .before .before in
+    let text = pick-text _ _ _ _ (wanted-numbers _ (numbers .numbers .ensures)) (picked .pick .ensures) in
+    left-wrote _ _ (numbers .before .if1 .left) (clean .clear .ensures) (rw text at (put .put-picked .ensures)) (pick-fits _ _ _) (c .written .ensures)
 
 pub pick-answer-spec : {M : Type 1} → statement M
 pick-answer-spec =
     tie.close
     (tie.spec
+    too-short-requires
+    same-length
+    returns
     numbers-requires
     array-share-prefix-numbers
     slice-aggregate-pick
     pick-requires
     clear-requires
     put-picked-requires
-    kept-requires
-    same-length
-    returns)
+    written-requires
+    same-length-2
+    returns-2)

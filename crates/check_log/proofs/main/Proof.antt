@@ -1,5 +1,5 @@
 -- What is written lies within the buffer that was lent. Assumes nothing.
-use Rattle.answers.proofs.Lengths.{answer-within, answer-counted}
+use Rattle.answers.proofs.Lengths.{check-fits, answer-within, answer-counted}
 use borrow.Author.Needs.{needs}
 use Rattle.check_log.proofs.main.Statement.{statement}
 use Rattle.check_log.proofs.main.Tie as tie
@@ -41,10 +41,10 @@ check-answer-requires : tie.Need-check-answer-requires
 check-answer-requires c κs = search needs
 
 array-share-prefix-out : tie.Need-array-share-prefix-out
-array-share-prefix-out c = answer-within _ _ (c .before .check-answer .ensures)
+array-share-prefix-out c = answer-within _ _ _ (check-fits _ _) (c .before .check-answer .ensures)
 
 slice-aggregate-write-all : tie.Need-slice-aggregate-write-all
-slice-aggregate-write-all c = answer-counted _ _ (c .before .before .check-answer .ensures)
+slice-aggregate-write-all c = answer-counted _ _ _ (check-fits _ _) (c .before .before .check-answer .ensures)
 
 write-all-requires : tie.Need-write-all-requires
 write-all-requires c κs = search needs

@@ -1,5 +1,5 @@
 -- What is written lies within the buffer that was lent. Assumes nothing.
-use Rattle.answers.proofs.Lengths.{answer-within, answer-counted}
+use Rattle.answers.proofs.Lengths.{pick-fits, answer-within, answer-counted}
 use borrow.Author.Needs.{needs}
 use Rattle.pick.proofs.main.Statement.{statement}
 use Rattle.pick.proofs.main.Tie as tie
@@ -56,10 +56,10 @@ pick-answer-requires : tie.Need-pick-answer-requires
 pick-answer-requires c κs = search needs
 
 array-share-prefix-out : tie.Need-array-share-prefix-out
-array-share-prefix-out c = answer-within _ _ (c .before .pick-answer .ensures)
+array-share-prefix-out c = answer-within _ _ _ (pick-fits _ _ _) (c .before .pick-answer .ensures)
 
 slice-aggregate-write-all : tie.Need-slice-aggregate-write-all
-slice-aggregate-write-all c = answer-counted _ _ (c .before .before .pick-answer .ensures)
+slice-aggregate-write-all c = answer-counted _ _ _ (pick-fits _ _ _) (c .before .before .pick-answer .ensures)
 
 write-all-requires : tie.Need-write-all-requires
 write-all-requires c κs = search needs
