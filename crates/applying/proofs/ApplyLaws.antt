@@ -11,7 +11,7 @@ use borrow.Author.Tests.{ne-eqb}
 use Rattle.slices.proofs.PartLaws.{one-less}
 use Rattle.corrections.specs.Reading.{entry}
 use Rattle.corrections.specs.declared.Index.{Index}
-use Rattle.routes.specs.Sources.{recordAt, inUse}
+use Rattle.routes.specs.Sources.{logSource, recordAt, inUse}
 use Rattle.routes.specs.declared.Sources.{Sources}
 use Rattle.applying.specs.State.{withSource, withoutRecord, Gives, made, failed}
 use Rattle.applying.specs.Apply.{entryAt, entriesFrom, lineApplied, linesApplied}
@@ -20,13 +20,14 @@ use Rattle.applying.specs.declared.state.Change.{Change}
 -- ---- one line
 
 module _ (f l : List ℕ) (letter at n : ℕ) (xs : List ℕ) (c : Change) where
-  pub line-out : (rec : List ℕ) → letter ≡ code "D" → rec ≡ recordAt f l (1000000 + at) → Gives c (withoutRecord f l rec xs) → Gives c (lineApplied f l (entry letter at n) xs)
-  unfolding lineApplied
-  line-out rec h e g = rw (h, ← e) g
+  module _ {s : ℕ} (p : s ≡ logSource at) where
+    pub line-out : (rec : List ℕ) → letter ≡ code "D" → rec ≡ recordAt f l s → Gives c (withoutRecord f l rec xs) → Gives c (lineApplied f l (entry letter at n) xs)
+    unfolding lineApplied
+    line-out rec h e g = rw (h, ← p, ← e) g
 
-  pub line-in : (letter ≡ code "D" → ⊥) → Gives c (withSource f l (1000000 + at) xs) → Gives c (lineApplied f l (entry letter at n) xs)
-  unfolding lineApplied
-  line-in h g = rw (ne-eqb letter (code "D") h) g
+    pub line-in : (letter ≡ code "D" → ⊥) → Gives c (withSource f l s xs) → Gives c (lineApplied f l (entry letter at n) xs)
+    unfolding lineApplied
+    line-in h g = rw (ne-eqb letter (code "D") h, ← p) g
 
 -- ---- what a change gave
 
@@ -50,20 +51,20 @@ module _ (f l : List ℕ) (index : Index) (k to : ℕ) where
   unfolding linesApplied entriesFrom
   lines-end xs h = let e : to - k ≡ 0 = omega arith in rw e
 
-  module _ (whole : Option (List ℕ)) (now : Sources) (w : whole ≡ linesApplied f l (entriesFrom index k (to - k)) (inUse now)) where
-    pub lines-done : (c : Change) → to ≤ k → now .count ≤ 480 → c .done ≡ true → c .state ≡ now → Gives c whole
+  module _ (whole : Option (List ℕ)) (standing : Sources) (w : whole ≡ linesApplied f l (entriesFrom index k (to - k)) (inUse standing)) where
+    pub lines-done : (c : Change) → to ≤ k → standing .count ≤ 480 → c .done ≡ true → c .state ≡ standing → Gives c whole
     lines-done c h n d e =
-        subst (Gives c) (sym (w ∙ lines-end (inUse now) h)) (made d (subst (λ (s : Sources). s .count ≤ 480) (sym e) n) (ap inUse e))
+        subst (Gives c) (sym (w ∙ lines-end (inUse standing) h)) (made d (subst (λ (s : Sources). s .count ≤ 480) (sym e) n) (ap inUse e))
 
-    module _ (h : k < to) (c : Change) (g : Gives c (lineApplied f l (entryAt index k) (inUse now))) where
+    module _ (h : k < to) (c : Change) (g : Gives c (lineApplied f l (entryAt index k) (inUse standing))) where
       pub lines-failed : c .done ≡ false → Gives c whole
       unfolding bind
       lines-failed d =
-          let z : whole ≡ none = w ∙ lines-next (inUse now) h ∙ ap (λ (o : Option (List ℕ)). bind o (linesApplied f l (entriesFrom index (k + 1) (to - (k + 1))))) (gave-none c _ g d) in
+          let z : whole ≡ none = w ∙ lines-next (inUse standing) h ∙ ap (λ (o : Option (List ℕ)). bind o (linesApplied f l (entriesFrom index (k + 1) (to - (k + 1))))) (gave-none c _ g d) in
           subst (Gives c) (sym z) (failed d)
 
       pub lines-go-on : c .done ≡ true → (c .state .count ≤ 480) × (whole ≡ linesApplied f l (entriesFrom index (k + 1) (to - (k + 1))) (inUse (c .state)))
       unfolding bind
       lines-go-on d =
           let s = gave-some c _ g d in
-          (s .1, w ∙ lines-next (inUse now) h ∙ ap (λ (o : Option (List ℕ)). bind o (linesApplied f l (entriesFrom index (k + 1) (to - (k + 1))))) (s .0))
+          (s .1, w ∙ lines-next (inUse standing) h ∙ ap (λ (o : Option (List ℕ)). bind o (linesApplied f l (entriesFrom index (k + 1) (to - (k + 1))))) (s .0))

@@ -21,7 +21,7 @@ use Rattle.history.specs.Format as H
 use Rattle.history.specs.Apply.{Op, Correction, apply, applyAll, touchedAccepted, correct, run}
 use Rattle.history.specs.Sets.{Numbers, chooseFrom}
 use Rattle.history.proofs.Cases.{every-some}
-use Rattle.applying.specs.Apply.{recordOfLine, lineApplied, linesApplied, touchedJudged}
+use Rattle.applying.specs.Apply.{sourceOf, recordOfLine, lineApplied, linesApplied, touchedJudged}
 use Rattle.applying.specs.Correct.{Outcome, stopped, reached, afterLines, afterJudging, corrected}
 use Rattle.applying.specs.Run.{onward, ran}
 use Rattle.applying.specs.Procedures.{procedures, operation, operations}
@@ -50,7 +50,7 @@ module _ (f l : List ℕ) where
   line-records e xs more w p =
       split (eqb (e .letter) (code "D"))
       (λ t. rw t (out-records f l (recordOfLine f l e) xs (rw t at w) (p .rises) (p .wide)))
-      (λ t. rw t (put-records f l (1000000 + e .at) xs (room t)))
+      (λ t. rw t (put-records f l (sourceOf e) xs (room t)))
     where
       room : eqb (e .letter) (code "D") ≡ false → length xs < 480
       room t = let h = rw t at (p .few) in omega (arith, h, length-map xs (recordAt f l))

@@ -18,7 +18,7 @@ use Rattle.corrections.specs.Reading.{Entry}
 use Rattle.corrections.specs.declared.Index.{Index}
 use Rattle.routes.specs.InTurn.{inTurn}
 use Rattle.routes.specs.Places.{keyOf}
-use Rattle.routes.specs.Sources.{recordAt, inUse, recordsIn}
+use Rattle.routes.specs.Sources.{logSource, recordAt, inUse, recordsIn}
 use Rattle.routes.specs.Walk.{walked}
 use Rattle.routes.specs.declared.Sources.{Sources}
 use Rattle.routes.proofs.InTurnLaws.{alone}
@@ -37,10 +37,10 @@ module _ (f l : List ℕ) where
     unfolding touched entriesFrom
     touched-end h = let e : to - k ≡ 0 = omega arith in rw e
 
-    module _ (h : k < to) {b : Bool} (e : b ≡ SameRoute (1000000 + getD (index .at) k 0) s) where
+    module _ (h : k < to) {x : ℕ} (p : x ≡ logSource (getD (index .at) k 0)) {b : Bool} (e : b ≡ SameRoute x s) where
       touched-cons : touched f l (entriesFrom index k (to - k)) s ≡ (b || touched f l (entriesFrom index (k + 1) (to - (k + 1))) s)
       unfolding touched entriesFrom
-      touched-cons = rw (one-less to k h, e)
+      touched-cons = rw (one-less to k h, e, p)
 
       pub touched-found : b ≡ true → touched f l (entriesFrom index k (to - k)) s ≡ true
       touched-found t = touched-cons ∙ rw t

@@ -2,7 +2,6 @@
 mod ShiftLaws
 pub mod StateLaws
 pub mod ApplyLaws
-mod KnownLaws
 mod JudgeLaws
 mod CorrectLaws
 pub mod RunLaws

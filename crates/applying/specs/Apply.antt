@@ -14,7 +14,7 @@ use Rattle.corrections.specs.Reading.{Entry, entry}
 use Rattle.corrections.specs.declared.Index.{Index}
 use Rattle.routes.specs.InTurn.{inTurn}
 use Rattle.routes.specs.Places.{keyOf}
-use Rattle.routes.specs.Sources.{recordAt}
+use Rattle.routes.specs.Sources.{logSource, recordAt}
 use Rattle.routes.specs.Walk.{walked}
 use Rattle.applying.specs.State.{withSource, withoutRecord}
 
@@ -32,7 +32,7 @@ Within index = (k : ℕ) → getD (index .at) k 0 ≤ 60000
 
 -- where a line's record lies
 abbrev pub sourceOf : Entry → ℕ
-sourceOf e = 1000000 + e .at
+sourceOf e = logSource (e .at)
 
 module _ (frozen log : List ℕ) where
   abbrev pub recordOfLine : Entry → List ℕ

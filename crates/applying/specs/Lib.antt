@@ -5,5 +5,4 @@ pub mod Correct
 pub mod Run
 pub mod Procedures
 pub mod Bounds
-pub mod Known
 pub mod Origin

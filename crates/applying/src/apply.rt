@@ -11,8 +11,8 @@ use crate::state::Change;
 use crate::state::put_in;
 use crate::state::take_out;
 use corrections::Index;
-use routes::FIRST_OF_LOG;
 use routes::Sources;
+use routes::log_source;
 use routes::record_at;
 
 // One line of correction n, whose record stands at an offset of the log: D takes the record out, A puts it in.
@@ -27,7 +27,7 @@ fn apply_line<'a>(
     requires { ⌜ (state .count ≤ 480) × (at ≤ 60000) ⌝ }
     ensures { λ c. ⌜ Gives c (lineApplied (now (frozen .entry)) (now (log .entry)) (entry letter at n) (inUse state)) ⌝ }
 {
-    let source = FIRST_OF_LOG + at;
+    let source = log_source(at as u16);
     if letter == b'D' {
         let rec = record_at(frozen, log, source);
         return take_out(frozen, log, state, rec);

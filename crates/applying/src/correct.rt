@@ -1,10 +1,10 @@
 // One correction applied to a state: 10 where a line can't be applied, 11 where a route that its lines name is refused. Assumes of its
 // callers what the lines and the routes do.
 ghost use Prim.Native.Nat.{_-_, _≤_};
+ghost use Rattle.routes.specs.Known.{Known};
 ghost use Rattle.routes.specs.Sources.{inUse};
 ghost use Rattle.applying.specs.Apply.{Within, entriesFrom};
 ghost use Rattle.applying.specs.Correct.{corrected, Comes};
-ghost use Rattle.applying.specs.Known.{Known};
 use crate::apply::apply_lines;
 use crate::judge::judge_touched;
 use corrections::Index;

@@ -5,26 +5,17 @@
 // Each record of the state costs one comparison of 25 bytes with the first of its route, each route one with each line of the correction, and
 // each record of a touched route its comparison with the primary before it. Fields are only judged where a record is not known to be legal.
 ghost use mathlib.Core.Path.{_≡_};
-ghost use mathlib.Core.Bool.{true};
 ghost use Prim.Native.Nat.{_+_, _-_, _≤_, _<_};
 ghost use lib.ListN.{drop, getD};
-ghost use Rattle.refusals.specs.declared.Verdict.the-variants.{Accepted};
-ghost use Rattle.routes.specs.Sources.{inUse, recordsIn};
-ghost use Rattle.routes.specs.Stages.{nothing};
-ghost use Rattle.routes.specs.Walk.{walkFrom, walked};
+ghost use Rattle.routes.specs.Known.{Known};
+ghost use Rattle.routes.specs.Sources.{inUse};
 ghost use Rattle.applying.specs.Apply.{Within, entriesFrom, touched, together, touchedJudged};
-ghost use Rattle.applying.specs.Known.{Known};
-use crate::known::knows;
 use crate::same_route;
 use corrections::Index;
 use refusals::Verdict;
-use routes::FIRST_OF_LOG;
 use routes::Sources;
-use routes::finish;
-use routes::judge_behind;
-use routes::judge_range;
-use routes::primary_after;
-use routes::record_at;
+use routes::judge_known;
+use routes::log_source;
 
 // Whether a line from `from` up to `to` names the route of a source.
 fn touches<'a>(
@@ -41,7 +32,7 @@ fn touches<'a>(
     let mut k = from;
     while k < to {
         let at = index.at[k];
-        if same_route(frozen, log, FIRST_OF_LOG + at, source) {
+        if same_route(frozen, log, log_source(at as u16), source) {
             return true;
         }
         k += 1;
@@ -67,60 +58,6 @@ fn route_end<'a>(frozen: &'a [u8], log: &'a [u8], state: Sources, i: usize) -> u
     k
 }
 
-// Whether the records of a range are all known to be legal, and each may stand behind those before it. Where they are not, nothing is said.
-fn surely_walks<'a>(
-    frozen: &'a [u8],
-    log: &'a [u8],
-    known: &[u32],
-    state: Sources,
-    from: usize,
-    to: usize,
-) -> bool
-    requires { ⌜ (to ≤ state .count) × (state .count ≤ 480) × Known (now frozen) (now log) (now known) ⌝ }
-    ensures { λ b. ⌜ (b ≡ true → walkFrom nothing 1 (recordsIn (now (frozen .entry)) (now (log .entry)) state from to) ≡ Accepted) ⌝ }
-{
-    let mut primary = &frozen[0..0];
-    let mut before = &frozen[0..0];
-    let mut i = from;
-    while i < to {
-        let source = state.at[i];
-        if !knows(known, source) {
-            return false;
-        }
-        let rec = record_at(frozen, log, source);
-        let verdict = judge_behind(primary, before, rec, i - from + 1);
-        match verdict {
-            Verdict::Accepted => {}
-            Verdict::Refused(_) => {
-                return false;
-            }
-        }
-        let last = primary_after(primary, rec);
-        primary = last;
-        before = rec;
-        i += 1;
-    }
-    true
-}
-
-// Judges the route of a range. The walk that judges every field is only asked where the route does not surely stand; it tells the refusal.
-fn judge_route<'a>(
-    frozen: &'a [u8],
-    log: &'a [u8],
-    known: &[u32],
-    state: Sources,
-    from: usize,
-    to: usize,
-) -> Verdict
-    requires { ⌜ (to ≤ state .count) × (state .count ≤ 480) × Known (now frozen) (now log) (now known) ⌝ }
-    ensures { λ r. ⌜ r ≡ walked (recordsIn (now (frozen .entry)) (now (log .entry)) state from to) ⌝ }
-{
-    if surely_walks(frozen, log, known, state, from, to) {
-        return finish(frozen, log, state, from, to);
-    }
-    judge_range(frozen, log, state, from, to)
-}
-
 // Judges the routes that a line from `from` up to `to` names, in rising order; the first that is refused gives the verdict.
 pub(crate) fn judge_touched<'a>(
     frozen: &'a [u8],
@@ -140,7 +77,7 @@ pub(crate) fn judge_touched<'a>(
         let source = state.at[i];
         let end = route_end(frozen, log, state, i);
         if touches(frozen, log, index, from, to, source) {
-            let verdict = judge_route(frozen, log, known, state, i, end);
+            let verdict = judge_known(frozen, log, known, state, i, end);
             match verdict {
                 Verdict::Accepted => {}
                 Verdict::Refused(r) => {

@@ -3,11 +3,11 @@
 ghost use mathlib.Core.Path.{_≡_};
 ghost use mathlib.Core.Bool.{cond};
 ghost use Prim.Native.Nat.{_+_, _-_, _≤_};
+ghost use Rattle.routes.specs.Known.{Known};
 ghost use Rattle.routes.specs.Sources.{inUse};
 ghost use Rattle.applying.specs.Apply.{Within, entriesFrom};
 ghost use Rattle.applying.specs.Correct.{Comes, corrected, reached};
 ghost use Rattle.applying.specs.Run.{leadingLines, byCorrection, ran, marked};
-ghost use Rattle.applying.specs.Known.{Known};
 use crate::correct::Corrected;
 use crate::correct::correct;
 use crate::is_marked;

@@ -13,9 +13,11 @@ use Rattle.refusals.specs.declared.Verdict.{Verdict}
 use Rattle.refusals.specs.declared.Verdict.the-variants.{Accepted, Refused}
 use Rattle.leg.specs.Judge.{stage}
 use Rattle.routes.specs.InTurn.{inTurn}
-use Rattle.routes.specs.Sources.{recordAt, recordsIn, records, sourcesOf}
+use Rattle.routes.specs.Sources.{recordAt, sourcesIn, recordsIn, records, sourcesOf}
 use Rattle.routes.specs.Stages.{nothing, awaits}
 use Rattle.routes.specs.Walk.{walkFrom, last, finished}
+use Rattle.routes.specs.Known.{Known, walkKnowing}
+use Rattle.routes.proofs.KnownLaws.{walk-known}
 use Rattle.routes.specs.Files.{sizeStage, tailColumn, tailStage, fileVerdict}
 use Rattle.routes.specs.declared.Sources.{Sources}
 use Rattle.routes.proofs.SourceLaws.{length-range, last-range, own-records, own-count}
@@ -63,8 +65,11 @@ module _ (f l : List ℕ) (s : Sources) (long : length (s .at) ≡ 480) (from to
 
 -- what the file's own sources give
 module _ (f : List ℕ) where
-  pub own-walk : (l : List ℕ) {s : Sources} {v : Verdict} → s ≡ sourcesOf f → v ≡ walkFrom nothing 1 (recordsIn f l s 0 (s .count)) → v ≡ walkFrom nothing 1 (records f)
-  own-walk l e q = q ∙ rw (e, own-records f l)
+  pub own-walk : (l : List ℕ) {known : List ℕ} {s : Sources} {v : Verdict} → Known f l known → s ≡ sourcesOf f
+      → v ≡ walkKnowing known f l nothing 1 (sourcesIn s 0 (s .count)) → v ≡ walkFrom nothing 1 (records f)
+  unfolding recordsIn
+  own-walk l {known} {s} k e q =
+      q ∙ walk-known f l k nothing 1 (sourcesIn s 0 (s .count)) ∙ ap (λ (t : Sources). walkFrom nothing 1 (recordsIn f l t 0 (t .count))) e ∙ ap (walkFrom nothing 1) (own-records f l)
 
   pub own-finish : (l : List ℕ) {s : Sources} {v : Verdict} → s ≡ sourcesOf f → v ≡ finished (recordsIn f l s 0 (s .count)) → v ≡ finished (records f)
   own-finish l e q = q ∙ rw (e, own-records f l)

@@ -1,6 +1,7 @@
 -- The laws of the crate.
 pub mod InTurnLaws
 pub mod SourceLaws
+pub mod KnownLaws
 pub mod PairLaws
 pub mod FileLaws
 pub mod Steps
@@ -9,5 +10,5 @@ pub mod Routes
 pub mod Lines
 pub mod Legality
 pub mod FirstLaws
-pub mod Turns
+mod Turns
 mod Vectors

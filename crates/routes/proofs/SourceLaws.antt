@@ -11,7 +11,7 @@ use lib.ListN.{length, getD, take, drop, set, replicate, length-take, length-dro
 use lib.Seq.{set-at, append-snoc, take-at, getD-drop, getD-take, drop-drop, drop-cons, take-all}
 use borrow.Author.Tests.{le-leb, lt-leb, lt-ltb, le-ltb, eq-eqb, ne-eqb, eqb-true}
 use Rattle.slices.proofs.Cases.{split}
-use Rattle.routes.specs.Sources.{recordWithin, recordAt, inUse, recordsIn, leading, records, starts, sourcesFor, sourcesTo, sourcesOf}
+use Rattle.routes.specs.Sources.{recordWithin, firstOfLog, recordAt, inUse, sourcesIn, recordsIn, leading, records, starts, sourcesFor, sourcesTo, sourcesOf}
 use Rattle.routes.specs.Walk.{last}
 use Rattle.routes.specs.declared.Sources.{Sources}
 
@@ -50,13 +50,13 @@ module _ (s : List ℕ) (at : ℕ) where
       simp (le-leb (at + 132) (length s), e)
 
 module _ (frozen log : List ℕ) (source : ℕ) where
-  pub in-frozen : source < 1000000 → recordWithin frozen source ≡ recordAt frozen log source
+  pub in-frozen : source < firstOfLog → recordWithin frozen source ≡ recordAt frozen log source
   unfolding recordAt
-  in-frozen h = simp (lt-ltb source 1000000)
+  in-frozen h = simp (lt-ltb source firstOfLog)
 
-  pub in-log : 1000000 ≤ source → recordWithin log (source - 1000000) ≡ recordAt frozen log source
+  pub in-log : firstOfLog ≤ source → recordWithin log (source - firstOfLog) ≡ recordAt frozen log source
   unfolding recordAt
-  in-log h = simp (le-ltb source 1000000)
+  in-log h = simp (le-ltb source firstOfLog)
 
 -- ---- a file's own sources
 
@@ -125,14 +125,17 @@ found-all f i e z h = let q : i ≡ length (records f) = omega arith in h ∙ ap
 
 -- ---- a range of sources
 
-module _ (f l : List ℕ) (s : Sources) (long : length (s .at) ≡ 480) (to i : ℕ) where
-  pub range-end : min to (min (s .count) 480) ≤ i → recordsIn f l s i to ≡ []
-  unfolding recordsIn inUse
-  range-end h =
-      rw (drop-of-length-le (take to (take (s .count) (s .at))) {i = i} (simp length-take (omega arith)))
+module _ (s : Sources) (long : length (s .at) ≡ 480) (to i : ℕ) where
+  pub range-end : min to (min (s .count) 480) ≤ i → sourcesIn s i to ≡ []
+  unfolding inUse
+  range-end h = drop-of-length-le (take to (take (s .count) (s .at))) {i = i} (simp length-take (omega arith))
 
-  pub range-next : i < min to (min (s .count) 480) → recordsIn f l s i to ≡ recordAt f l (getD (s .at) i 0) ∷ recordsIn f l s (i + 1) to
-  unfolding recordsIn inUse
+  pub records-end : (f l : List ℕ) → min to (min (s .count) 480) ≤ i → recordsIn f l s i to ≡ []
+  unfolding recordsIn
+  records-end f l h = ap (map (recordAt f l)) (range-end h)
+
+  pub range-next : i < min to (min (s .count) 480) → sourcesIn s i to ≡ getD (s .at) i 0 ∷ sourcesIn s (i + 1) to
+  unfolding inUse
   range-next h =
       let q : i < length (take to (take (s .count) (s .at))) = simp length-take (omega arith) in
       rw (add-one, drop-cons (take to (take (s .count) (s .at))) i 0 q, getD-take to (take (s .count) (s .at)) i 0 (omega arith), getD-take (s .count) (s .at) i 0 (omega arith))
@@ -164,7 +167,7 @@ module _ (f l : List ℕ) (s : Sources) (long : length (s .at) ≡ 480) (from to
 
 -- ---- a file's own sources give its own records
 
-own-from : (f l : List ℕ) (m at : ℕ) → at + m * 133 ≤ 1000000 → map (recordAt f l) (starts at (length (leading m (drop at f)))) ≡ leading m (drop at f)
+own-from : (f l : List ℕ) (m at : ℕ) → at + m * 133 ≤ firstOfLog → map (recordAt f l) (starts at (length (leading m (drop at f)))) ≡ leading m (drop at f)
 unfolding leading starts
 own-from f l zero at h = refl
 own-from f l (suc m) at h =

@@ -1,6 +1,7 @@
 -- One turn of each loop, as an equation between what is left before it and after it.
 -- Assumes nothing.
 use mathlib.Core.Path.{_≡_, sym, _∙_}
+use mathlib.Core.Bool.{Bool}
 use mathlib.Core.List.{List, [], _∷_}
 use Prim.Native.Nat.{ℕ, _+_, _-_, _≤_, _<_, min}
 use native.Mathlib.Omega.{arith}
@@ -12,9 +13,10 @@ use Rattle.refusals.specs.declared.Refusal.{Refusal}
 use Rattle.refusals.specs.declared.Verdict.{Verdict}
 use Rattle.refusals.specs.declared.Verdict.the-variants.{Accepted, Refused}
 use Rattle.routes.specs.InTurn.{inTurn}
-use Rattle.routes.specs.Sources.{recordAt, recordsIn}
+use Rattle.routes.specs.Sources.{recordAt, sourcesIn}
 use Rattle.routes.specs.Stages.{seen, nothing, columnsTo, firstDifference}
-use Rattle.routes.specs.Walk.{judgedNext, primaryAfter, walkFrom}
+use Rattle.routes.specs.Walk.{primaryAfter}
+use Rattle.routes.specs.Known.{knows, judgedKnowing, walkKnowing}
 use Rattle.routes.specs.declared.Sources.{Sources}
 use Rattle.routes.proofs.InTurnLaws.{goes-on, stops}
 use Rattle.routes.proofs.SourceLaws.{range-next, range-end}
@@ -51,30 +53,31 @@ module _ (a b : List ℕ) (n k : ℕ) (h : k < n) {x y : ℕ} (hx : x ≡ getD a
 
 -- ---- the walk over a range of sources, of which those before i were accepted
 
-module _ (frozen log : List ℕ) (s : Sources) (from to : ℕ) (primary before : List ℕ) (i : ℕ) where
+module _ (known frozen log : List ℕ) (s : Sources) (from to : ℕ) (primary before : List ℕ) (i : ℕ) where
   unfoldable pub walking : Verdict
-  walking = walkFrom (seen primary before) (i - from + 1) (recordsIn frozen log s i to)
+  walking = walkKnowing known frozen log (seen primary before) (i - from + 1) (sourcesIn s i to)
 
-pub walking-start : (frozen log : List ℕ) (s : Sources) (from to : ℕ) → walkFrom nothing 1 (recordsIn frozen log s from to) ≡ walking frozen log s from to [] [] from
+pub walking-start : (known frozen log : List ℕ) (s : Sources) (from to : ℕ)
+    → walkKnowing known frozen log nothing 1 (sourcesIn s from to) ≡ walking known frozen log s from to [] [] from
 unfolding walking
-walking-start frozen log s from to = let e : from - from + 1 ≡ 1 = omega arith in rw e
+walking-start known frozen log s from to = let e : from - from + 1 ≡ 1 = omega arith in rw e
 
-module _ (frozen log : List ℕ) (s : Sources) (long : length (s .at) ≡ 480) (from to : ℕ) (primary before : List ℕ) (i : ℕ) where
-  pub walking-end : min to (min (s .count) 480) ≤ i → walking frozen log s from to primary before i ≡ Accepted
-  unfolding walking walkFrom
-  walking-end h = rw (range-end frozen log s long to i h)
+module _ (known frozen log : List ℕ) (s : Sources) (long : length (s .at) ≡ 480) (from to : ℕ) (primary before : List ℕ) (i : ℕ) where
+  pub walking-end : min to (min (s .count) 480) ≤ i → walking known frozen log s from to primary before i ≡ Accepted
+  unfolding walking walkKnowing
+  walking-end h = rw (range-end s long to i h)
 
-  module _ (h : i < min to (min (s .count) 480)) {rec : List ℕ} (e : rec ≡ recordAt frozen log (getD (s .at) i 0)) {v : Verdict}
-      (q : v ≡ judgedNext (seen primary before) (i - from + 1) rec) where
-    walking-cons : walking frozen log s from to primary before i
-        ≡ inTurn (v ∷ walkFrom (seen (primaryAfter primary rec) rec) (i - from + 1 + 1) (recordsIn frozen log s (i + 1) to) ∷ [])
-    unfolding walking walkFrom
-    walking-cons = rw (range-next frozen log s long to i h, ← e, q)
+  module _ (h : i < min to (min (s .count) 480)) {b : Bool} (p : b ≡ knows known (getD (s .at) i 0)) {rec : List ℕ} (e : rec ≡ recordAt frozen log (getD (s .at) i 0))
+      {v : Verdict} (q : v ≡ judgedKnowing b (seen primary before) (i - from + 1) rec) where
+    walking-cons : walking known frozen log s from to primary before i
+        ≡ inTurn (v ∷ walkKnowing known frozen log (seen (primaryAfter primary rec) rec) (i - from + 1 + 1) (sourcesIn s (i + 1) to) ∷ [])
+    unfolding walking walkKnowing
+    walking-cons = rw (range-next s long to i h, ← p, ← e, q)
 
-    pub walking-stop : {r : Refusal} → v ≡ Refused r → walking frozen log s from to primary before i ≡ Refused r
+    pub walking-stop : {r : Refusal} → v ≡ Refused r → walking known frozen log s from to primary before i ≡ Refused r
     walking-stop x = walking-cons ∙ sym (stops _ x)
 
     pub walking-next : {last : List ℕ} → from ≤ i → v ≡ Accepted → last ≡ primaryAfter primary rec
-        → walking frozen log s from to primary before i ≡ walking frozen log s from to last rec (i + 1)
+        → walking known frozen log s from to primary before i ≡ walking known frozen log s from to last rec (i + 1)
     unfolding walking
     walking-next k x y = let z : i - from + 1 + 1 ≡ i + 1 - from + 1 = omega arith in walking-cons ∙ sym (goes-on _ x) ∙ rw (y, z)

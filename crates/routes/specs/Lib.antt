@@ -4,6 +4,7 @@ pub mod Sources
 pub mod Pairs
 pub mod Stages
 pub mod Walk
+pub mod Known
 pub mod Files
 pub mod Places
 pub mod First

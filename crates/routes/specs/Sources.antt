@@ -1,4 +1,4 @@
--- Where records lie. A source below 1,000,000 is an offset in the frozen file; any other is 1,000,000 and an offset in the log.
+-- Where records lie. A source is an offset in the frozen file; or, from 1,000,000 on, that and an offset in the log.
 -- Assumes nothing.
 use Prim.Native.Nat.{ℕ, zero, suc, _+_, _-_}
 use mathlib.Core.Bool.{cond}
@@ -12,15 +12,25 @@ use Rattle.routes.specs.declared.Sources.{Sources}
 unfoldable pub recordWithin : List ℕ → ℕ → List ℕ
 recordWithin s at = cond (leb (at + 132) (length s)) (take 132 (drop at s)) []
 
-unfoldable pub recordAt : List ℕ → List ℕ → ℕ → List ℕ
-recordAt frozen log source = cond (ltb source 1000000) (recordWithin frozen source) (recordWithin log (source - 1000000))
+-- the first source of the log, and the source of the record at an offset of it
+abbrev pub firstOfLog : ℕ
+firstOfLog = 1000000
 
--- the sources that count, and those from one on up to another, where they count from 0
+abbrev pub logSource : (at : ℕ) → ℕ
+logSource at = firstOfLog + at
+
+unfoldable pub recordAt : List ℕ → List ℕ → ℕ → List ℕ
+recordAt frozen log source = cond (ltb source firstOfLog) (recordWithin frozen source) (recordWithin log (source - firstOfLog))
+
+-- the sources that count; those from one on up to another, where they count from 0; and their records
 unfoldable pub inUse : Sources → List ℕ
 inUse s = take (s .count) (s .at)
 
+abbrev pub sourcesIn : Sources → (from to : ℕ) → List ℕ
+sourcesIn s from to = drop from (take to (inUse s))
+
 unfoldable pub recordsIn : List ℕ → List ℕ → Sources → (from to : ℕ) → List (List ℕ)
-recordsIn frozen log s from to = map (recordAt frozen log) (drop from (take to (inUse s)))
+recordsIn frozen log s from to = map (recordAt frozen log) (sourcesIn s from to)
 
 -- a file's records: its leading pieces of 133 bytes that end in a line feed, at most so many; each without its line feed
 unfoldable pub leading : ℕ → List ℕ → List (List ℕ)

@@ -1,5 +1,6 @@
 // Files and routes: records judged in sequence. A record is given by its source, the place of its 132 bytes in one of two slices, so a
 // file and a route of corrected records are judged by one walk. Assumes nothing of the caller: any slices, any sources.
+pub mod known;
 mod pairs;
 mod record;
 mod stages;
@@ -9,11 +10,14 @@ ghost use mathlib.Core.List.{[], _∷_};
 ghost use Prim.Native.Nat.{_≤_};
 ghost use lib.ListN.{length};
 ghost use Rattle.routes.specs.InTurn.{inTurn};
-ghost use Rattle.routes.specs.Sources.{recordAt, recordsIn, sourcesOf};
+ghost use Rattle.routes.specs.Known.{judgedKnowing, walkKnowing, walkedKnowing};
+ghost use Rattle.routes.specs.Sources.{logSource, recordAt, sourcesIn, recordsIn, sourcesOf};
 ghost use Rattle.routes.specs.Stages.{seen, nothing};
-ghost use Rattle.routes.specs.Walk.{judgedBehind, judgedNext, primaryAfter, walkFrom, finished, walked};
+ghost use Rattle.routes.specs.Walk.{judgedBehind, primaryAfter, finished, walked};
 ghost use Rattle.routes.specs.Files.{tailStage, fileVerdict};
 use columns::Kind;
+use known::NOTHING_KNOWN;
+use known::knows;
 use refusals::MOST_RECORDS;
 use refusals::Refusal;
 use refusals::Verdict;
@@ -34,12 +38,19 @@ pub const LINE_WIDTH: usize = RECORD_WIDTH + 1;
 pub const LONGEST_FILE: usize = MOST_RECORDS * LINE_WIDTH;
 
 // From this number on a source is one of the log; below it, one of the frozen file.
-pub const FIRST_OF_LOG: u32 = 1000000;
+const FIRST_OF_LOG: u32 = 1000000;
 
 // Where records lie, at most 480 of them; zeros past the count.
 pub struct Sources {
     pub count: usize,
     pub at: [u32; MOST_RECORDS],
+}
+
+// The source of the record at an offset of the log. Every record of a log, which has at most 60,000 bytes, lies at an offset that is a u16.
+pub fn log_source(at: u16) -> u32
+    ensures { λ r. ⌜ r ≡ logSource at ⌝ }
+{
+    FIRST_OF_LOG + at as u32
 }
 
 // The record of a source: below 1,000,000 the 132 bytes at that offset of the frozen file, else those at the rest of the log. Empty where
@@ -75,7 +86,7 @@ pub fn sources_of(file: &[u8]) -> Sources
 }
 
 // Judges one record by what stands before it, the last primary and the record before this one: 6, 7, 8. Both are empty where nothing does.
-pub fn judge_behind<'a>(primary: &'a [u8], before: &'a [u8], rec: &'a [u8], place: usize) -> Verdict
+fn judge_behind<'a>(primary: &'a [u8], before: &'a [u8], rec: &'a [u8], place: usize) -> Verdict
     ensures { λ r. ⌜ r ≡ judgedBehind (seen (now (primary .entry)) (now (before .entry))) place (now (rec .entry)) ⌝ }
 {
     let kind = columns::kind_of(rec);
@@ -86,12 +97,21 @@ pub fn judge_behind<'a>(primary: &'a [u8], before: &'a [u8], rec: &'a [u8], plac
     in_turn(continued, in_turn(ordered, flown))
 }
 
-// Judges one record after the last primary and the record before it: 3, 4, 5 by itself, then 6, 7, 8.
-fn judge_next<'a>(primary: &'a [u8], before: &'a [u8], rec: &'a [u8], place: usize) -> Verdict
-    ensures { λ r. ⌜ r ≡ judgedNext (seen (now (primary .entry)) (now (before .entry))) place (now (rec .entry)) ⌝ }
+// Judges one record after the last primary and the record before it: 3, 4, 5 by itself, unless it is known to be legal, then 6, 7, 8.
+fn judge_next<'a>(
+    known: bool,
+    primary: &'a [u8],
+    before: &'a [u8],
+    rec: &'a [u8],
+    place: usize,
+) -> Verdict
+    ensures { λ r. ⌜ r ≡ judgedKnowing known (seen (now (primary .entry)) (now (before .entry))) place (now (rec .entry)) ⌝ }
 {
-    let alone = leg::judge(rec, place);
     let behind = judge_behind(primary, before, rec, place);
+    if known {
+        return behind;
+    }
+    let alone = leg::judge(rec, place);
     in_turn(alone, behind)
 }
 
@@ -106,7 +126,7 @@ fn in_turn(first: Verdict, next: Verdict) -> Verdict
 }
 
 // The last primary once this record was seen.
-pub fn primary_after<'a>(primary: &'a [u8], rec: &'a [u8]) -> &'a [u8]
+fn primary_after<'a>(primary: &'a [u8], rec: &'a [u8]) -> &'a [u8]
     ensures { λ r. ⌜ now r ≡ primaryAfter (now (primary .entry)) (now (rec .entry)) ⌝ }
 {
     let kind = columns::kind_of(rec);
@@ -116,9 +136,17 @@ pub fn primary_after<'a>(primary: &'a [u8], rec: &'a [u8]) -> &'a [u8]
     }
 }
 
-// Judges the records of a range of sources in sequence, counted from 1; what follows the last of them is not looked at.
-fn walk<'a>(frozen: &'a [u8], log: &'a [u8], sources: Sources, from: usize, to: usize) -> Verdict
-    ensures { λ r. ⌜ r ≡ walkFrom nothing 1 (recordsIn (now (frozen .entry)) (now (log .entry)) sources from to) ⌝ }
+// Judges the records of a range of sources in sequence, counted from 1; what follows the last of them is not looked at. Those that a table
+// knows are not judged by themselves.
+fn walk<'a>(
+    frozen: &'a [u8],
+    log: &'a [u8],
+    known: &[u32],
+    sources: Sources,
+    from: usize,
+    to: usize,
+) -> Verdict
+    ensures { λ r. ⌜ r ≡ walkKnowing (now (known .entry)) (now (frozen .entry)) (now (log .entry)) nothing 1 (sourcesIn sources from to) ⌝ }
 {
     let count = sources.count;
     let end = least(to, least(count, MOST_RECORDS));
@@ -127,8 +155,9 @@ fn walk<'a>(frozen: &'a [u8], log: &'a [u8], sources: Sources, from: usize, to: 
     let mut i = from;
     while i < end {
         let source = sources.at[i];
+        let legal = knows(known, source);
         let rec = record_at(frozen, log, source);
-        let verdict = judge_next(primary, before, rec, i - from + 1);
+        let verdict = judge_next(legal, primary, before, rec, i - from + 1);
         match verdict {
             Verdict::Accepted => {}
             Verdict::Refused(r) => {
@@ -144,13 +173,7 @@ fn walk<'a>(frozen: &'a [u8], log: &'a [u8], sources: Sources, from: usize, to: 
 }
 
 // Whether a continuation is missing past the last record of a range of sources, which are read as `judge_range` reads them.
-pub fn finish<'a>(
-    frozen: &'a [u8],
-    log: &'a [u8],
-    sources: Sources,
-    from: usize,
-    to: usize,
-) -> Verdict
+fn finish<'a>(frozen: &'a [u8], log: &'a [u8], sources: Sources, from: usize, to: usize) -> Verdict
     ensures { λ r. ⌜ r ≡ finished (recordsIn (now (frozen .entry)) (now (log .entry)) sources from to) ⌝ }
 {
     let count = sources.count;
@@ -167,7 +190,24 @@ pub fn finish<'a>(
 }
 
 // Judges the records of a range of sources, a route of them for example, in sequence and counted from its start. The range counts from
-// 0, `to` is past its last, and what is past the sources that count is cut off.
+// 0, `to` is past its last, and what is past the sources that count is cut off. A record that the table knows is taken to be legal by itself:
+// where what the table knows is so, this is `judge_range`, at the cost of comparing alone.
+pub fn judge_known<'a>(
+    frozen: &'a [u8],
+    log: &'a [u8],
+    known: &[u32],
+    sources: Sources,
+    from: usize,
+    to: usize,
+) -> Verdict
+    ensures { λ r. ⌜ r ≡ walkedKnowing (now (known .entry)) (now (frozen .entry)) (now (log .entry)) (sourcesIn sources from to) ⌝ }
+{
+    let judged = walk(frozen, log, known, sources, from, to);
+    let finished = finish(frozen, log, sources, from, to);
+    in_turn(judged, finished)
+}
+
+// The same with nothing known: every record is judged by itself.
 pub fn judge_range<'a>(
     frozen: &'a [u8],
     log: &'a [u8],
@@ -177,9 +217,7 @@ pub fn judge_range<'a>(
 ) -> Verdict
     ensures { λ r. ⌜ r ≡ walked (recordsIn (now (frozen .entry)) (now (log .entry)) sources from to) ⌝ }
 {
-    let judged = walk(frozen, log, sources, from, to);
-    let finished = finish(frozen, log, sources, from, to);
-    in_turn(judged, finished)
+    judge_known(frozen, log, &NOTHING_KNOWN, sources, from, to)
 }
 
 // What stands behind the n leading records of a file, each of 133 bytes: nothing, or a record that is cut short.
@@ -207,7 +245,7 @@ pub fn check(file: &[u8]) -> Verdict
     }
     let sources = sources_of(file);
     let count = sources.count;
-    let judged = walk(file, file, sources, 0, count);
+    let judged = walk(file, file, &NOTHING_KNOWN, sources, 0, count);
     let tail = judge_tail(file, count);
     let finished = finish(file, file, sources, 0, count);
     in_turn(judged, in_turn(tail, finished))

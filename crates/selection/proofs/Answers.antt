@@ -18,7 +18,7 @@ use Rattle.refusals.specs.declared.Verdict.the-variants.{Accepted}
 use Rattle.routes.specs.Files.{fileVerdict}
 use Rattle.routes.specs.Legal.{lines, Wide}
 use Rattle.routes.specs.Places.{Every}
-use Rattle.routes.specs.Sources.{recordWithin, recordAt, sourcesFor}
+use Rattle.routes.specs.Sources.{firstOfLog, recordWithin, recordAt, sourcesFor}
 use Rattle.routes.proofs.Lines.{length-lines}
 use Rattle.selection.specs.Pick.{Pick, refusedBy, picked, pickOf, newRecords, newBytes, lineIn, filePick, pickedAs}
 use Rattle.selection.specs.Demand.{LiesAt}
@@ -58,16 +58,16 @@ module _ (f l : List ℕ) where
 
   source-range : (source : ℕ) → length (recordAt f l source) ≡ 132 → LiesAt f l source (recordAt f l source)
   unfolding recordAt
-  source-range source w = by (ltb source 1000000) refl w
+  source-range source w = by (ltb source firstOfLog) refl w
     where
-      by : (b : Bool) → ltb source 1000000 ≡ b → length (cond b (recordWithin f source) (recordWithin l (source - 1000000))) ≡ 132
-          → LiesAt f l source (cond b (recordWithin f source) (recordWithin l (source - 1000000)))
+      by : (b : Bool) → ltb source firstOfLog ≡ b → length (cond b (recordWithin f source) (recordWithin l (source - firstOfLog))) ≡ 132
+          → LiesAt f l source (cond b (recordWithin f source) (recordWithin l (source - firstOfLog)))
       by true e h =
-          let k = ltb-true source 1000000 e in
+          let k = ltb-true source firstOfLog e in
           record { whose = inl k; inFrozen = λ _. within-range f source h; inLog = λ z. absurd (omega arith) }
       by false e h =
-          let k = ltb-false source 1000000 e in
-          record { whose = inr k; inFrozen = λ z. absurd (omega arith); inLog = λ _. within-range l (source - 1000000) h }
+          let k = ltb-false source firstOfLog e in
+          record { whose = inr k; inFrozen = λ z. absurd (omega arith); inLog = λ _. within-range l (source - firstOfLog) h }
 
   every-at : (rs : List (List ℕ)) → Every Wide rs → (n : ℕ) → n < length rs → length (getD rs n []) ≡ 132
   every-at [] e n h = absurd (omega arith)

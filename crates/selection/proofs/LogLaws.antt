@@ -11,7 +11,7 @@ use Rattle.corrections.specs.Reading.{Entry, entry}
 use Rattle.corrections.specs.Text.{Change, takeOut, putIn, letterOf, changeText, Sound, EverySound, AllSound, puts, allPuts, LegalLog}
 use Rattle.corrections.proofs.TextLaws.{entriesIn}
 use Rattle.corrections.proofs.ReadBack.{corrections-made}
-use Rattle.routes.specs.Sources.{recordWithin}
+use Rattle.routes.specs.Sources.{firstOfLog, logSource, recordWithin}
 use Rattle.routes.proofs.SourceLaws.{in-log}
 use Rattle.history.specs.Apply.{take-out, put-in}
 use Rattle.applying.specs.Apply.{recordOfLine}
@@ -35,8 +35,8 @@ record-there front rest r letter n =
 module _ (frozen log : List ℕ) where
   line-there : (e : Entry) → recordOfLine frozen log e ≡ recordWithin log (e .at)
   line-there e =
-      let z : 1000000 + e .at - 1000000 ≡ e .at = omega arith in
-      sym (in-log frozen log (1000000 + e .at) (omega arith)) ∙ ap (recordWithin log) z
+      let z : logSource (e .at) - firstOfLog ≡ e .at = omega arith in
+      sym (in-log frozen log (logSource (e .at)) (omega arith)) ∙ ap (recordWithin log) z
 
   bytes-there : (front rest r : List ℕ) (letter at n : ℕ) → length r ≡ 132 → at ≡ length front
       → log ≡ front ++ (letter ∷ 9 ∷ ((r ++ 10 ∷ []) ++ rest)) → recordOfLine frozen log (entry letter (at + 2) n) ≡ r

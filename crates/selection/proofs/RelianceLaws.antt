@@ -14,7 +14,7 @@ use Rattle.slices.specs.Order.{equal}
 use Rattle.slices.proofs.PartLaws.{one-less}
 use Rattle.slices.proofs.WriteLaws.{stored-front}
 use Rattle.routes.specs.Places.{keyOf}
-use Rattle.routes.specs.Sources.{recordAt}
+use Rattle.routes.specs.Sources.{logSource, recordAt}
 use Rattle.corrections.specs.declared.Index.{Index}
 use Rattle.applying.specs.Apply.{entryAt, entriesFrom, recordOfLine}
 use Rattle.selection.specs.Reliance.{lastBefore, reliedBy, reliances}
@@ -35,11 +35,11 @@ module _ (f l : List ℕ) (index : Index) (k : ℕ) where
   unfolding reliedFrom lastBefore entriesFrom
   relied-end found j w h = let z : k - j ≡ 0 = omega arith in sym (w ∙ rw z)
 
-  pub relied-next : (found j : ℕ) {whole : ℕ} {same : Bool} {next : ℕ} → whole ≡ reliedFrom found j → j < k
-      → same ≡ equal (keyOf (recordAt f l (1000000 + getD (index .at) k 0))) (keyOf (recordAt f l (1000000 + getD (index .at) j 0)))
+  pub relied-next : (found j : ℕ) {whole own other : ℕ} {same : Bool} {next : ℕ} → whole ≡ reliedFrom found j → j < k
+      → own ≡ logSource (getD (index .at) k 0) → other ≡ logSource (getD (index .at) j 0) → same ≡ equal (keyOf (recordAt f l own)) (keyOf (recordAt f l other))
       → next ≡ cond (ltb (getD (index .correction) j 0) (getD (index .correction) k 0) && same) (getD (index .correction) j 0) found → whole ≡ reliedFrom next (j + 1)
   unfolding reliedFrom lastBefore entriesFrom
-  relied-next found j w h s n = w ∙ rw (one-less k j h, n, s)
+  relied-next found j w h p q s n = w ∙ rw (one-less k j h, n, s, p, q)
 
 -- ---- all lines, of which those from k on are left
 

@@ -11,7 +11,7 @@ use Rattle.corrections.specs.Text.{LegalLog}
 use Rattle.routes.specs.Files.{fileVerdict}
 use Rattle.routes.specs.Legal.{lines, Wide}
 use Rattle.routes.specs.Places.{Every}
-use Rattle.routes.specs.Sources.{recordAt, records}
+use Rattle.routes.specs.Sources.{firstOfLog, recordAt, records}
 use Rattle.history.specs.Sets.{Numbers, closure}
 use Rattle.history.specs.Demand.{Fewest, Carried}
 use Rattle.applying.specs.Procedures.{procedures, logOf}
@@ -39,6 +39,6 @@ pub record Demanded (frozen log wanted taken sources : List ℕ) : Type 0 where
 
 -- A source's 132 bytes are a part of the frozen file or of the log: which of the two, and from which offset on.
 pub record LiesAt (frozen log : List ℕ) (source : ℕ) (rec : List ℕ) : Type 0 where
-  pub whose : (source < 1000000) ⊎ (1000000 ≤ source)
-  pub inFrozen : source < 1000000 → (source + 132 ≤ length frozen) × (rec ≡ take 132 (drop source frozen))
-  pub inLog : 1000000 ≤ source → (source - 1000000 + 132 ≤ length log) × (rec ≡ take 132 (drop (source - 1000000) log))
+  pub whose : (source < firstOfLog) ⊎ (firstOfLog ≤ source)
+  pub inFrozen : source < firstOfLog → (source + 132 ≤ length frozen) × (rec ≡ take 132 (drop source frozen))
+  pub inLog : firstOfLog ≤ source → (source - firstOfLog + 132 ≤ length log) × (rec ≡ take 132 (drop (source - firstOfLog) log))

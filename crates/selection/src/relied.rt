@@ -13,7 +13,7 @@ use applying::same_route;
 use corrections::Index;
 use corrections::MOST_CHANGES;
 use corrections::MOST_CORRECTIONS;
-use routes::FIRST_OF_LOG;
+use routes::log_source;
 
 // How many bytes marks have: one for each correction, and one for 0, which is none.
 pub(crate) const MARKS: usize = MOST_CORRECTIONS + 1;
@@ -32,12 +32,13 @@ fn relied_on<'a>(frozen: &'a [u8], log: &'a [u8], index: Index, k: usize) -> u32
 {
     let at = index.at[k];
     let n = index.correction[k];
+    let source = log_source(at as u16);
     let mut found = 0;
     let mut j = 0;
     while j < k {
         let other = index.at[j];
         let of = index.correction[j];
-        let same = same_route(frozen, log, FIRST_OF_LOG + at, FIRST_OF_LOG + other);
+        let same = same_route(frozen, log, source, log_source(other as u16));
         found = later(found, of, (of < n) & same);
         j += 1;
     }

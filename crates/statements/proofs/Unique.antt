@@ -196,20 +196,20 @@ unique-write-continuation κs a x y v w p q = (p .0 ∙ sym (q .0), ap (λ (b : 
 
 -- ---- routes
 
+pub unique-log-source : Determined routes.log_source.Kinds.ps routes.log_source.Kinds.r routes.log_source.Reads.Post
+unique-log-source κs a x y v w p q = (p ∙ sym q, refl)
+
 pub unique-record-at : DeterminedAs routes.record_at.Kinds.ps routes.record_at.Kinds.r (λ κs. now) routes.record_at.Reads.Post
 unique-record-at κs a x y v w p q = (p ∙ sym q, refl)
 
 pub unique-sources-of : Determined routes.sources_of.Kinds.ps routes.sources_of.Kinds.r routes.sources_of.Reads.Post
 unique-sources-of κs a x y v w p q = (p ∙ sym q, refl)
 
-pub unique-judge-behind : Determined routes.judge_behind.Kinds.ps routes.judge_behind.Kinds.r routes.judge_behind.Reads.Post
-unique-judge-behind κs a x y v w p q = (p ∙ sym q, refl)
+pub unique-learn : Determined routes.known.learn.Kinds.ps routes.known.learn.Kinds.r routes.known.learn.Reads.Post
+unique-learn κs a x y v w p q = (refl, ap (λ (b : List ℕ). (tt, (tt, (tt, (b, tt))))) (p ∙ sym q))
 
-pub unique-primary-after : DeterminedAs routes.primary_after.Kinds.ps routes.primary_after.Kinds.r (λ κs. now) routes.primary_after.Reads.Post
-unique-primary-after κs a x y v w p q = (p ∙ sym q, refl)
-
-pub unique-finish : Determined routes.finish.Kinds.ps routes.finish.Kinds.r routes.finish.Reads.Post
-unique-finish κs a x y v w p q = (p ∙ sym q, refl)
+pub unique-judge-known : Determined routes.judge_known.Kinds.ps routes.judge_known.Kinds.r routes.judge_known.Reads.Post
+unique-judge-known κs a x y v w p q = (p ∙ sym q, refl)
 
 pub unique-judge-range : Determined routes.judge_range.Kinds.ps routes.judge_range.Kinds.r routes.judge_range.Reads.Post
 unique-judge-range κs a x y v w p q = (p ∙ sym q, refl)

@@ -1,6 +1,7 @@
 -- The file's own sources give its own records; then stage by stage. Assumes nothing.
 use Rattle.routes.proofs.SourceLaws.{own-count}
 use Rattle.routes.proofs.FileLaws.{too-long, not-too-long, own-walk, own-tail, own-finish}
+use Rattle.routes.proofs.KnownLaws.{known-nothing}
 use borrow.Author.Needs.{needs}
 use Rattle.routes.proofs.check.Statement.{statement}
 use Rattle.routes.proofs.check.Tie as tie
@@ -14,11 +15,14 @@ returns c = too-long _ (c .before .if1 .taken) (c .too-many-records .ensures)
 sources-of-requires : tie.Need-sources-of-requires
 sources-of-requires c κs = search needs
 
+slice-aggregate-walk : tie.Need-slice-aggregate-walk
+slice-aggregate-walk c = search needs
+
 walk-requires : tie.Need-walk-requires
 walk-requires c κs = search needs
 
 judge-tail-requires : tie.Need-judge-tail-requires
-judge-tail-requires c κs = own-count _ (c .before .sources-of .ensures) .1
+judge-tail-requires c κs = own-count _ (c .before .before .sources-of .ensures) .1
 
 finish-requires : tie.Need-finish-requires
 finish-requires c κs = search needs
@@ -31,9 +35,9 @@ in-turn-requires-2 c κs = search needs
 
 returns-2 : tie.Need-returns-2
 returns-2 c =
-    let made = c .before .before .before .before .before in
+    let made = c .before .before .before .before .before .before in
     not-too-long _ (made .before .if1 .left)
-    (own-walk _ _ (made .sources-of .ensures) (c .before .before .before .before .walk .ensures))
+    (own-walk _ _ (known-nothing _ _ 1) (made .sources-of .ensures) (c .before .before .before .before .walk .ensures))
     (own-tail _ (made .sources-of .ensures) (c .before .before .before .judge-tail .ensures))
     (own-finish _ _ (made .sources-of .ensures) (c .before .before .finish .ensures))
     (c .before .in-turn .ensures)
@@ -46,6 +50,7 @@ check-spec =
     too-many-records-requires
     returns
     sources-of-requires
+    slice-aggregate-walk
     walk-requires
     judge-tail-requires
     finish-requires

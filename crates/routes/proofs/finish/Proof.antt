@@ -1,7 +1,7 @@
 -- By the last record of the range. Assumes nothing.
 use mathlib.Core.Path.{_≡_}
 use lib.ListN.{length}
-use Rattle.routes.proofs.SourceLaws.{range-end}
+use Rattle.routes.proofs.SourceLaws.{records-end}
 use Rattle.routes.proofs.FileLaws.{finished-none, finished-missing, finished-right, found-last, found-many}
 use native.Mathlib.Omega.{arith}
 use borrow.Author.Needs.{needs}
@@ -15,7 +15,7 @@ least-requires-2 : tie.Need-least-requires-2
 least-requires-2 c κs = search needs
 
 returns : tie.Need-returns
-returns c = finished-none (range-end _ _ (c .before .before .before .before .before .args .t3) (search needs) _ _ (omega arith))
+returns c = finished-none (records-end (c .before .before .before .before .before .args .t3) (search needs) _ _ _ _ (omega arith))
 
 sub-source : tie.Need-sub-source
 sub-source c = search needs

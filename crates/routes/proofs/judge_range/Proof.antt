@@ -1,21 +1,18 @@
--- The walk, then what is missing at its end. Assumes nothing.
-use Rattle.routes.specs.Walk.{walked}
+-- A table of nothing knows nothing that is not so. Assumes nothing.
+use mathlib.Core.Path.{_∙_}
+use Rattle.routes.proofs.KnownLaws.{known-nothing, walked-known}
 use borrow.Author.Needs.{needs}
 use Rattle.routes.proofs.judge_range.Statement.{statement}
 use Rattle.routes.proofs.judge_range.Tie as tie
 
-walk-requires : tie.Need-walk-requires
-walk-requires c κs = search needs
+slice-aggregate-judge-known : tie.Need-slice-aggregate-judge-known
+slice-aggregate-judge-known c = search needs
 
-finish-requires : tie.Need-finish-requires
-finish-requires c κs = search needs
-
-in-turn-requires : tie.Need-in-turn-requires
-in-turn-requires c κs = search needs
+judge-known-requires : tie.Need-judge-known-requires
+judge-known-requires c κs = search needs
 
 returns : tie.Need-returns
-unfolding walked
-returns c = rw (← c .before .before .walk .ensures, ← c .before .finish .ensures) (c .in-turn .ensures)
+returns c = c .judge-known .ensures ∙ walked-known _ _ (known-nothing _ _ 1) _ _ _
 
 pub judge-range-spec : {M : Type 1} → statement M
-judge-range-spec = tie.close (tie.spec walk-requires finish-requires in-turn-requires returns)
+judge-range-spec = tie.close (tie.spec slice-aggregate-judge-known judge-known-requires returns)

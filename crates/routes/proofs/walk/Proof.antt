@@ -2,9 +2,9 @@
 use mathlib.Core.Path.{_≡_, sym, _∙_}
 use Prim.Native.Nat.{_≤_, _-_, min}
 use lib.ListN.{length}
-use Rattle.routes.specs.Sources.{recordsIn}
+use Rattle.routes.specs.Sources.{sourcesIn}
 use Rattle.routes.specs.Stages.{nothing}
-use Rattle.routes.specs.Walk.{walkFrom}
+use Rattle.routes.specs.Known.{walkKnowing}
 use Rattle.routes.proofs.Turns.{walking, walking-start, walking-stop, walking-next, walking-end}
 use borrow.Author.Needs.{needs}
 use native.Mathlib.Omega.{arith}
@@ -12,14 +12,14 @@ use Rattle.routes.proofs.walk.Statement.{statement}
 use Rattle.routes.proofs.walk.Tie as tie
 
 abbrev Inv-loop : tie.InvT-loop
-Inv-loop frozen log from to sources count end primary₀ before₀ i₀ primary before i =
+Inv-loop frozen log known from to sources count end primary₀ before₀ i₀ primary before i =
     (end ≡ min to (min (sources .count) 480))
     × (from ≤ i)
     × (length (sources .at) ≡ 480)
-    × (walkFrom nothing 1 (recordsIn frozen log sources from to) ≡ walking frozen log sources from to primary before i)
+    × (walkKnowing known frozen log nothing 1 (sourcesIn sources from to) ≡ walking known frozen log sources from to primary before i)
 
 abbrev μ-loop : tie.MeasureT-loop
-μ-loop frozen log from to sources count end primary₀ before₀ i₀ primary before i = end - i
+μ-loop frozen log known from to sources count end primary₀ before₀ i₀ primary before i = end - i
 
 least-requires : tie.Need-least-requires Inv-loop μ-loop
 least-requires c κs = search needs
@@ -46,13 +46,16 @@ part-before-end : tie.Need-part-before-end Inv-loop μ-loop
 part-before-end c = search needs
 
 loop-holds : tie.Need-loop-holds Inv-loop μ-loop
-loop-holds c = (search needs, search needs, search needs, walking-start _ _ _ _ _)
+loop-holds c = (search needs, search needs, search needs, walking-start _ _ _ _ _ _)
 
 mul-source : tie.Need-mul-source Inv-loop μ-loop
 mul-source c = search needs
 
 element-copy-out-source : tie.Need-element-copy-out-source Inv-loop μ-loop
 element-copy-out-source c = search needs
+
+knows-requires : tie.Need-knows-requires Inv-loop μ-loop
+knows-requires c κs = search needs
 
 record-at-requires : tie.Need-record-at-requires Inv-loop μ-loop
 record-at-requires c κs = search needs
@@ -75,10 +78,10 @@ enum-known-verdict c = search needs
 returns : tie.Need-returns Inv-loop μ-loop
 returns c =
     let judged = c .before .before .before in
-    let inv = judged .before .before .before .before .loop .inv in
+    let inv = judged .before .before .before .before .before .loop .inv in
     sym
     (inv .3
-    ∙ walking-stop _ _ _ (inv .2) _ _ _ _ _ (omega arith) (judged .before .record-at .ensures) (judged .judge-next .ensures) (c .before .verdict .given .1))
+    ∙ walking-stop _ _ _ _ (inv .2) _ _ _ _ _ (omega arith) (judged .before .before .knows .ensures) (judged .before .record-at .ensures) (judged .judge-next .ensures) (c .before .verdict .given .1))
 
 primary-after-requires : tie.Need-primary-after-requires Inv-loop μ-loop
 primary-after-requires c κs = search needs
@@ -92,17 +95,17 @@ loop-less c = search needs
 loop-again : tie.Need-loop-again Inv-loop μ-loop
 loop-again c =
     let judged = c .before .before .before in
-    let inv = judged .before .before .before .before .loop .inv in (
+    let inv = judged .before .before .before .before .before .loop .inv in (
       search needs,
       search needs,
       search needs,
       inv .3
-          ∙ walking-next _ _ _ (inv .2) _ _ _ _ _ (omega arith) (judged .before .record-at .ensures) (judged .judge-next .ensures)
+          ∙ walking-next _ _ _ _ (inv .2) _ _ _ _ _ (omega arith) (judged .before .before .knows .ensures) (judged .before .record-at .ensures) (judged .judge-next .ensures)
           (inv .1) (c .before .enum-told .given .1) (c .primary-after .ensures),
     )
 
 returns-2 : tie.Need-returns-2 Inv-loop μ-loop
-returns-2 c = sym (c .before .loop .inv .3 ∙ walking-end _ _ _ (c .before .loop .inv .2) _ _ _ _ _ (omega arith))
+returns-2 c = sym (c .before .loop .inv .3 ∙ walking-end _ _ _ _ (c .before .loop .inv .2) _ _ _ _ _ (omega arith))
 
 pub walk-spec : {M : Type 1} → statement M
 walk-spec =
@@ -121,6 +124,7 @@ walk-spec =
     loop-holds
     mul-source
     element-copy-out-source
+    knows-requires
     record-at-requires
     sub-judge-next
     add-judge-next

@@ -4,8 +4,11 @@ use borrow.Author.Needs.{needs}
 use Rattle.applying.proofs.apply.apply_line.Statement.{statement}
 use Rattle.applying.proofs.apply.apply_line.Tie as tie
 
-add-source : tie.Need-add-source
-add-source c = search needs
+cast-log-source : tie.Need-cast-log-source
+cast-log-source c = search needs
+
+log-source-requires : tie.Need-log-source-requires
+log-source-requires c κs = search needs
 
 record-at-requires : tie.Need-record-at-requires
 record-at-requires c κs = search needs
@@ -14,15 +17,15 @@ take-out-requires : tie.Need-take-out-requires
 take-out-requires c κs = search needs
 
 returns : tie.Need-returns
-returns c = line-out _ _ _ _ _ _ _ _ (c .before .before .if1 .taken) (c .before .record-at .ensures) (c .take-out .ensures)
+returns c = line-out _ _ _ _ _ _ _ (c .before .before .before .log-source .ensures) _ (c .before .before .if1 .taken) (c .before .record-at .ensures) (c .take-out .ensures)
 
 put-in-requires : tie.Need-put-in-requires
 put-in-requires c κs = search needs
 
 returns-2 : tie.Need-returns-2
-returns-2 c = line-in _ _ _ _ _ _ _ (c .before .if1 .left) (c .put-in .ensures)
+returns-2 c = line-in _ _ _ _ _ _ _ (c .before .before .log-source .ensures) (c .before .if1 .left) (c .put-in .ensures)
 
 pub apply-line-spec : {M : Type 1} → statement M
 apply-line-spec =
     tie.close
-    (tie.spec add-source record-at-requires take-out-requires returns put-in-requires returns-2)
+    (tie.spec cast-log-source log-source-requires record-at-requires take-out-requires returns put-in-requires returns-2)

@@ -6,6 +6,7 @@ use Prim.Native.Nat.{_-_, _≤_}
 use mathlib.Core.List.{[]}
 use mathlib.Core.Path.{_≡_, refl, sym, _∙_}
 use Rattle.applying.proofs.JudgeLaws.{end-within, route-refused, route-stands, route-untouched, routes-end}
+use Rattle.routes.proofs.KnownLaws.{walked-known}
 use borrow.Author.Needs.{needs}
 use native.Mathlib.Omega.{arith}
 use Rattle.applying.proofs.judge.judge_touched.Statement.{statement}
@@ -32,12 +33,8 @@ route-end-requires c κs = search needs
 touches-requires : tie.Need-touches-requires Inv-loop μ-loop
 touches-requires c κs = search needs
 
-judge-route-requires : tie.Need-judge-route-requires Inv-loop μ-loop
-judge-route-requires c κs =
-    let turn = c .before .before .before .before in
-    let start = turn .before .before .before .before .before in
-    let w = end-within _ _ [] (start .args .t7) (start .pre .0) (let good = start .good .1 .1 .1 .1 .1 .1 .0 in search needs) _ (turn .loop-test .taken) (c .before .before .route-end .ensures) in
-    (w .1, start .pre .0, start .pre .3)
+judge-known-requires : tie.Need-judge-known-requires Inv-loop μ-loop
+judge-known-requires c κs = search needs
 
 enum-told : tie.Need-enum-told Inv-loop μ-loop
 enum-told c = search needs
@@ -49,7 +46,7 @@ returns : tie.Need-returns Inv-loop μ-loop
 returns c =
     let turn = c .before .before .before .before .before .before .before .before in
     let start = turn .before .before .before .before .before in
-    sym (turn .before .loop .inv .1 ∙ route-refused _ _ _ (start .args .t7) (start .pre .0) (let good = start .good .1 .1 .1 .1 .1 .1 .0 in search needs) _ (turn .loop-test .taken) (c .before .before .before .before .before .before .route-end .ensures) (c .before .before .before .before .before .touches .ensures) (c .before .before .before .before .if1 .taken) (c .before .before .before .judge-route .ensures) (c .before .verdict .given .1))
+    sym (turn .before .loop .inv .1 ∙ route-refused _ _ _ (start .args .t7) (start .pre .0) (let good = start .good .1 .1 .1 .1 .1 .1 .0 in search needs) _ (turn .loop-test .taken) (c .before .before .before .before .before .before .route-end .ensures) (c .before .before .before .before .before .touches .ensures) (c .before .before .before .before .if1 .taken) (c .before .before .before .judge-known .ensures ∙ walked-known _ _ (start .pre .3) _ _ _) (c .before .verdict .given .1))
 
 loop-less : tie.Need-loop-less Inv-loop μ-loop
 loop-less c =
@@ -63,7 +60,7 @@ loop-again c =
     let turn = c .before .before .before .before .before .before .before in
     let start = turn .before .before .before .before .before in
     let w = end-within _ _ [] (start .args .t7) (start .pre .0) (let good = start .good .1 .1 .1 .1 .1 .1 .0 in search needs) _ (turn .loop-test .taken) (c .before .before .before .before .before .route-end .ensures) in
-    (w .1, turn .before .loop .inv .1 ∙ route-stands _ _ _ (start .args .t7) (start .pre .0) (let good = start .good .1 .1 .1 .1 .1 .1 .0 in search needs) _ (turn .loop-test .taken) (c .before .before .before .before .before .route-end .ensures) (c .before .before .before .before .touches .ensures) (c .before .before .before .if1 .taken) (c .before .before .judge-route .ensures) (c .enum-told .given .1))
+    (w .1, turn .before .loop .inv .1 ∙ route-stands _ _ _ (start .args .t7) (start .pre .0) (let good = start .good .1 .1 .1 .1 .1 .1 .0 in search needs) _ (turn .loop-test .taken) (c .before .before .before .before .before .route-end .ensures) (c .before .before .before .before .touches .ensures) (c .before .before .before .if1 .taken) (c .before .before .judge-known .ensures ∙ walked-known _ _ (start .pre .3) _ _ _) (c .enum-told .given .1))
 
 loop-less-2 : tie.Need-loop-less-2 Inv-loop μ-loop
 loop-less-2 c =
@@ -95,7 +92,7 @@ judge-touched-spec =
     element-copy-out-source
     route-end-requires
     touches-requires
-    judge-route-requires
+    judge-known-requires
     enum-told
     enum-known-verdict
     returns

@@ -1,5 +1,5 @@
-use native.Mathlib.Omega.{arith}
 -- The invariant: the lines that are left give the answer. Assumes nothing.
+use native.Mathlib.Omega.{arith}
 use Rattle.applying.specs.Apply.{entriesFrom, touched}
 use Prim.Native.Nat.{_-_}
 use mathlib.Core.Path.{_≡_, refl, sym, _∙_}
@@ -23,16 +23,19 @@ mul-at c = search needs
 element-copy-out-at : tie.Need-element-copy-out-at Inv-loop μ-loop
 element-copy-out-at c = search needs
 
-add-same-route : tie.Need-add-same-route Inv-loop μ-loop
-add-same-route c = omega (arith, c .before .before .before .before .before .pre .1 (c .before .before .loop .k))
+cast-log-source : tie.Need-cast-log-source Inv-loop μ-loop
+cast-log-source c = omega (arith, c .before .before .before .before .before .pre .1 (c .before .before .loop .k))
+
+log-source-requires : tie.Need-log-source-requires Inv-loop μ-loop
+log-source-requires c κs = search needs
 
 same-route-requires : tie.Need-same-route-requires Inv-loop μ-loop
 same-route-requires c κs = search needs
 
 returns : tie.Need-returns Inv-loop μ-loop
 returns c =
-    let turn = c .before .before .before in
-    sym (turn .before .loop .inv ∙ touched-found _ _ _ _ _ _ (turn .loop-test .taken) (c .before .same-route .ensures) (c .if1 .taken))
+    let turn = c .before .before .before .before in
+    sym (turn .before .loop .inv ∙ touched-found _ _ _ _ _ _ (turn .loop-test .taken) (c .before .before .log-source .ensures) (c .before .same-route .ensures) (c .if1 .taken))
 
 add-k : tie.Need-add-k Inv-loop μ-loop
 add-k c = search needs
@@ -42,8 +45,8 @@ loop-less c = search needs
 
 loop-again : tie.Need-loop-again Inv-loop μ-loop
 loop-again c =
-    let turn = c .before .before .before in
-    turn .before .loop .inv ∙ touched-next _ _ _ _ _ _ (turn .loop-test .taken) (c .before .same-route .ensures) (c .if1 .left)
+    let turn = c .before .before .before .before in
+    turn .before .loop .inv ∙ touched-next _ _ _ _ _ _ (turn .loop-test .taken) (c .before .before .log-source .ensures) (c .before .same-route .ensures) (c .if1 .left)
 
 returns-2 : tie.Need-returns-2 Inv-loop μ-loop
 returns-2 c = sym (c .before .loop .inv ∙ touched-end _ _ _ _ _ _ (c .loop-test .left))
@@ -57,7 +60,8 @@ touches-spec =
     loop-holds
     mul-at
     element-copy-out-at
-    add-same-route
+    cast-log-source
+    log-source-requires
     same-route-requires
     returns
     add-k

@@ -1,5 +1,5 @@
 -- From a table of nothing on. Assumes nothing.
-use Rattle.applying.proofs.KnownLaws.{known-nothing}
+use Rattle.routes.proofs.KnownLaws.{known-nothing}
 use borrow.Author.Needs.{needs}
 use Rattle.applying.proofs.known.known_of.Statement.{statement}
 use Rattle.applying.proofs.known.known_of.Tie as tie
@@ -8,7 +8,7 @@ slice-aggregate-learn-records : tie.Need-slice-aggregate-learn-records
 slice-aggregate-learn-records c = search needs
 
 learn-records-requires : tie.Need-learn-records-requires
-learn-records-requires c κs = (c .before .before .before .pre .0, known-nothing _ _ 924)
+learn-records-requires c κs = (c .before .before .before .pre .0, known-nothing _ _ 932)
 
 slice-aggregate-learn-lines : tie.Need-slice-aggregate-learn-lines
 slice-aggregate-learn-lines c = search needs

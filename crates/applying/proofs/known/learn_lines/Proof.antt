@@ -1,5 +1,5 @@
 -- The invariant: what is known is so. Assumes nothing.
-use Rattle.applying.specs.Known.{Known}
+use Rattle.routes.specs.Known.{Known}
 use Prim.Native.Nat.{_-_}
 use mathlib.Core.Path.{_≡_}
 use lib.ListN.{length}

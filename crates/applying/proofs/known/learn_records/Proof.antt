@@ -1,8 +1,9 @@
 -- The invariant: what is known is so. Assumes nothing.
-use Rattle.applying.specs.Known.{Known}
+use Rattle.routes.specs.Known.{Known}
 use Prim.Native.Nat.{_-_}
 use mathlib.Core.Path.{_≡_}
 use lib.ListN.{length}
+use Rattle.routes.proofs.KnownLaws.{known-learned}
 use borrow.Author.Needs.{needs}
 use Rattle.applying.proofs.known.learn_records.Statement.{statement}
 use Rattle.applying.proofs.known.learn_records.Tie as tie
@@ -32,7 +33,9 @@ loop-less : tie.Need-loop-less Inv-loop μ-loop
 loop-less c = search needs
 
 loop-again : tie.Need-loop-again Inv-loop μ-loop
-loop-again c = search needs
+loop-again c =
+    let taught = c .before .before in
+    (search needs, known-learned _ _ (taught .before .before .before .before .loop .inv .1) _ (taught .learn .ensures))
 
 same-length : tie.Need-same-length Inv-loop μ-loop
 same-length c = search needs

@@ -1,5 +1,6 @@
 -- The invariant: the lines that are left, after what was found, give the answer. Assumes nothing.
 use Rattle.selection.specs.Reliance.{reliedBy}
+use Rattle.routes.specs.Sources.{logSource}
 use lib.ListN.{getD}
 use Prim.Native.Nat.{_-_, _≤_}
 use mathlib.Core.Path.{_≡_, refl}
@@ -10,10 +11,14 @@ use Rattle.selection.proofs.relied.relied_on.Statement.{statement}
 use Rattle.selection.proofs.relied.relied_on.Tie as tie
 
 abbrev Inv-loop : tie.InvT-loop
-Inv-loop frozen log k index at n found₀ j₀ found j = (j ≤ k) × (at ≡ getD (index .at) k 0) × (n ≡ getD (index .correction) k 0) × (reliedBy frozen log index k ≡ reliedFrom frozen log index k found j)
+Inv-loop frozen log k index at n source found₀ j₀ found j =
+    (j ≤ k)
+    × (source ≡ logSource (getD (index .at) k 0))
+    × (n ≡ getD (index .correction) k 0)
+    × (reliedBy frozen log index k ≡ reliedFrom frozen log index k found j)
 
 abbrev μ-loop : tie.MeasureT-loop
-μ-loop frozen log k index at n found₀ j₀ found j = k - j
+μ-loop frozen log k index at n source found₀ j₀ found j = k - j
 
 mul-at : tie.Need-mul-at Inv-loop μ-loop
 mul-at c = search needs
@@ -27,8 +32,14 @@ mul-n c = search needs
 element-copy-out-n : tie.Need-element-copy-out-n Inv-loop μ-loop
 element-copy-out-n c = search needs
 
+cast-log-source : tie.Need-cast-log-source Inv-loop μ-loop
+cast-log-source c = let start = c .before .before .before .before in omega (arith, start .pre .1 (start .args .k))
+
+log-source-requires : tie.Need-log-source-requires Inv-loop μ-loop
+log-source-requires c κs = search needs
+
 loop-holds : tie.Need-loop-holds Inv-loop μ-loop
-loop-holds c = (omega arith, refl, refl, relied-start _ _ _ _)
+loop-holds c = (omega arith, c .log-source .ensures, refl, relied-start _ _ _ _)
 
 mul-other : tie.Need-mul-other Inv-loop μ-loop
 mul-other c = search needs
@@ -42,15 +53,13 @@ mul-of c = search needs
 element-copy-out-of : tie.Need-element-copy-out-of Inv-loop μ-loop
 element-copy-out-of c = search needs
 
-add-same-route : tie.Need-add-same-route Inv-loop μ-loop
-add-same-route c =
-    let head = c .before .before .before .before in
-    record { fits = omega (arith, head .before .before .before .before .pre .1 (head .before .before .before .before .args .k)) }
+cast-log-source-2 : tie.Need-cast-log-source-2 Inv-loop μ-loop
+cast-log-source-2 c =
+    let turn = c .before .before .before in
+    omega (arith, turn .before .before .before .before .before .before .pre .1 (turn .loop .j))
 
-add-same-route-2 : tie.Need-add-same-route-2 Inv-loop μ-loop
-add-same-route-2 c =
-    let head = c .before .before .before .before in
-    record { fits = omega (arith, head .before .before .before .before .pre .1 (c .before .before .before .loop .j)) }
+log-source-requires-2 : tie.Need-log-source-requires-2 Inv-loop μ-loop
+log-source-requires-2 c κs = search needs
 
 same-route-requires : tie.Need-same-route-requires Inv-loop μ-loop
 same-route-requires c κs = search needs
@@ -66,9 +75,10 @@ loop-less c = search needs
 
 loop-again : tie.Need-loop-again Inv-loop μ-loop
 loop-again c =
-    let turn = c .before .before .before .before in
+    let other = c .before .before in
+    let turn = other .before .before .before in
     let inv = turn .before .loop .inv in
-    (search needs, inv .1, inv .2, relied-next _ _ _ _ _ _ (inv .3) (turn .loop-test .taken) (c .before .same-route .ensures) (c .later .ensures))
+    (search needs, inv .1, inv .2, relied-next _ _ _ _ _ _ (inv .3) (turn .loop-test .taken) (inv .1) (other .log-source2 .ensures) (c .before .same-route .ensures) (c .later .ensures))
 
 returns : tie.Need-returns Inv-loop μ-loop
 returns c = relied-end _ _ _ _ _ _ (c .before .loop .inv .3) (c .loop-test .left)
@@ -83,13 +93,15 @@ relied-on-spec =
     element-copy-out-at
     mul-n
     element-copy-out-n
+    cast-log-source
+    log-source-requires
     loop-holds
     mul-other
     element-copy-out-other
     mul-of
     element-copy-out-of
-    add-same-route
-    add-same-route-2
+    cast-log-source-2
+    log-source-requires-2
     same-route-requires
     later-requires
     add-j

@@ -1,19 +1,17 @@
--- A record that is legal is known from here on. Assumes nothing.
-use mathlib.Core.Path.{sym, _∙_}
-use Rattle.leg.proofs.Legality.{accepted-iff}
-use Rattle.applying.proofs.KnownLaws.{known-more}
+-- A law for each way that it returns. Assumes nothing.
+use Rattle.routes.proofs.KnownLaws.{learns-last, learns-past, learns, learns-not}
 use borrow.Author.Needs.{needs}
-use Rattle.applying.proofs.known.learn.Statement.{statement}
-use Rattle.applying.proofs.known.learn.Tie as tie
+use Rattle.routes.proofs.known.learn.Statement.{statement}
+use Rattle.routes.proofs.known.learn.Tie as tie
 
 slot-requires : tie.Need-slot-requires
 slot-requires c κs = search needs
 
 returns : tie.Need-returns
-returns c = search needs
+returns c = learns-last _ _ _ _ (c .if1 .taken)
 
 returns-2 : tie.Need-returns-2
-returns-2 c = search needs
+returns-2 c = learns-past _ _ _ _ (c .before .if1 .left) (c .before .before .slot .ensures) (c .if2 .taken)
 
 record-at-requires : tie.Need-record-at-requires
 record-at-requires c κs = search needs
@@ -42,12 +40,14 @@ same-length c = search needs
 returns-3 : tie.Need-returns-3
 returns-3 c =
     let met = c .before .before .before in
-    let found = met .before .before .before in
-    known-more _ _ (found .before .before .before .before .pre) _ (found .slot .ensures) (met .before .if2 .left)
-    (accepted-iff _ 1 .0 (rw (← met .record-at .ensures) (sym (c .before .before .judge .ensures) ∙ c .enum-told .given .1)))
+    let tested = met .before .before in
+    learns _ _ _ _ (tested .if1 .left) (tested .before .slot .ensures) (met .record-at .ensures) (c .before .before .judge .ensures) (c .enum-told .given .1)
 
 returns-4 : tie.Need-returns-4
-returns-4 c = search needs
+returns-4 c =
+    let met = c .before .before .before in
+    let tested = met .before .before in
+    learns-not _ _ _ _ (tested .if1 .left) (tested .before .slot .ensures) (met .record-at .ensures) (c .before .before .judge .ensures) (c .enum-told2 .given .1)
 
 pub learn-spec : {M : Type 1} → statement M
 learn-spec =

@@ -1,9 +1,9 @@
 -- By what the slot holds. Assumes nothing.
-use Rattle.applying.proofs.KnownLaws.{knows-none, knows-held}
+use Rattle.routes.proofs.KnownLaws.{knows-none, knows-held}
 use borrow.Author.Needs.{needs}
 use native.Mathlib.Omega.{arith}
-use Rattle.applying.proofs.known.knows.Statement.{statement}
-use Rattle.applying.proofs.known.knows.Tie as tie
+use Rattle.routes.proofs.known.knows.Statement.{statement}
+use Rattle.routes.proofs.known.knows.Tie as tie
 
 slot-requires : tie.Need-slot-requires
 slot-requires c κs = search needs

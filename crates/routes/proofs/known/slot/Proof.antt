@@ -1,8 +1,8 @@
 -- A law for each slice. Assumes nothing.
-use Rattle.applying.proofs.KnownLaws.{slot-of-frozen, slot-of-log}
+use Rattle.routes.proofs.KnownLaws.{slot-of-frozen, slot-of-log}
 use borrow.Author.Needs.{needs}
-use Rattle.applying.proofs.known.slot.Statement.{statement}
-use Rattle.applying.proofs.known.slot.Tie as tie
+use Rattle.routes.proofs.known.slot.Statement.{statement}
+use Rattle.routes.proofs.known.slot.Tie as tie
 
 returns : tie.Need-returns
 returns c = slot-of-frozen _ (c .if1 .taken)
