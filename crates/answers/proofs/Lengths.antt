@@ -143,7 +143,8 @@ check-fits f l = by (logVerdict f l)
 -- ---- so an answer is whole, or there is none
 
 module _ (longest lent : ℕ) (answer : List ℕ) where
-  zeros-where-refused : (r : Refusal) → answered longest lent answer .verdict ≡ Refused r → filled longest lent answer ≡ replicate lent 0
+  -- On a refusal the buffer is nothing but zeros.
+  pub zeros-where-refused : (r : Refusal) → answered longest lent answer .verdict ≡ Refused r → filled longest lent answer ≡ replicate lent 0
   unfolding answered filled
   zeros-where-refused r e = split (ltb lent longest) (λ t. rw t) (λ t. absurd (never (sym (rw t at e))))
 
@@ -160,19 +161,6 @@ module _ (longest lent : ℕ) (answer : List ℕ) where
   counted-within h =
       split (ltb lent longest) (λ t. rw t (omega arith))
       (λ t. rw t (omega (arith, length-append answer (replicate (lent - length answer) 0))))
-
--- On a refusal the buffer is nothing but zeros.
-module _ (lent : ℕ) (frozen log want : List ℕ) (r : Refusal) where
-  pub pick-zeros : answered 1813 lent (pickAnswer frozen log want) .verdict ≡ Refused r → filled 1813 lent (pickAnswer frozen log want) ≡ replicate lent 0
-  pick-zeros = zeros-where-refused 1813 lent (pickAnswer frozen log want) r
-
-  pub newfile-zeros : answered 63840 lent (newfileAnswer frozen log want) .verdict ≡ Refused r
-      → filled 63840 lent (newfileAnswer frozen log want) ≡ replicate lent 0
-  newfile-zeros = zeros-where-refused 63840 lent (newfileAnswer frozen log want) r
-
-pub check-zeros : (lent : ℕ) (frozen log : List ℕ) (r : Refusal) → answered 66 lent (checkAnswer frozen log) .verdict ≡ Refused r
-    → filled 66 lent (checkAnswer frozen log) ≡ replicate lent 0
-check-zeros lent frozen log r = zeros-where-refused 66 lent (checkAnswer frozen log) r
 
 -- Whatever is lent, what is counted lies in front of it.
 module _ (longest lent : ℕ) (answer : List ℕ) {out : List ℕ} {a : Answer} (fits : length answer ≤ longest)

@@ -46,7 +46,9 @@ use Rattle.selection.specs.Demand.{Demanded}
 use Rattle.selection.proofs.Demand.{picked-demand, pick-iff, log-runs}
 use Rattle.selection.proofs.Origins.{sources-handed}
 use Rattle.selection.proofs.Answers as answers
-use Rattle.statements.specs.Order.{readOrder, writeOrder, fileOrder, checkOrder, pickOrder, newFileOrder, FirstWanted, FirstCorrection}
+use Rattle.answers.specs.Answers.{answered, filled}
+use Rattle.answers.proofs.Lengths as printed
+use Rattle.statements.specs.Order.{roomStage, readOrder, writeOrder, fileOrder, checkOrder, pickOrder, newFileOrder, FirstWanted, FirstCorrection}
 use Rattle.statements.proofs.OrderLaws as order
 
 -- ---- 1: "Every refusal has a number, a place and a column, the first in a stated order, and a lent output buffer then holds only zero bytes."
@@ -71,6 +73,10 @@ pick-refused = order.pick-first
 pub new-file-refused : (frozen log wanted : List ℕ) (lent : ℕ) (r : Refusal)
     → (filePick frozen log lent wanted ≡ refusedBy r) ↔ First r (newFileOrder frozen log lent wanted)
 new-file-refused = order.new-file-first
+
+pub answer-refused : (longest lent : ℕ) (answer : List ℕ) (r : Refusal)
+    → (answered longest lent answer .verdict ≡ Refused r) ↔ First r (roomStage longest lent ∷ [])
+answer-refused = order.answer-first
 
 -- And the stages that look at many things one after the other: the records of a file or of a route, by the first record and there the first
 -- stage; the fields of a record from left to right; the lines of a log, which goes wrong at one place at most; the wanted numbers; the corrections.
@@ -104,6 +110,10 @@ record-zeros = parts.nothing-written
 pub file-zeros : (frozen log : List ℕ) (lent : ℕ) (wanted : List ℕ) (r : Refusal) → filePick frozen log lent wanted ≡ refusedBy r
     → padded lent (newBytes frozen log (filePick frozen log lent wanted)) ≡ replicate lent 0
 file-zeros = answers.file-refused
+
+pub answer-zeros : (longest lent : ℕ) (answer : List ℕ) (r : Refusal) → answered longest lent answer .verdict ≡ Refused r
+    → filled longest lent answer ≡ replicate lent 0
+answer-zeros = printed.zeros-where-refused
 
 -- ---- 2: "Accepted exactly when legal."
 

@@ -39,6 +39,7 @@ use Rattle.applying.specs.Run.{byCorrection, ran, onward}
 use Rattle.selection.specs.Pick.{lengthStage, ifAccepted, opened, wantedStage, everything, Pick, refusedBy, picked, judgedFirst, ranFirst, outcomeVerdict, carried, takenOf, membersFrom, logJudged, logVerdict, pickFrom, pickOf, filePick}
 use Rattle.selection.proofs.OpenedLaws.{said-opening}
 use Rattle.selection.proofs.PickSteps.{Whole, whole-picks}
+use Rattle.answers.specs.Answers.{answered}
 use Rattle.statements.specs.Order.{recordOrder, readOrder, roomStage, writeOrder, fileOrder, linesStage, numbersStage, correctionsStage, reading, checkOrder, pickOrder, newFileOrder, NotInLog, FirstWanted, at, behind, FirstCorrection, unapplied, route}
 
 -- ---- verdicts in turn
@@ -229,6 +230,15 @@ module _ (frozen log : List ℕ) where
         Iff·trans
         (split (ltb lent 63840) (λ t. rw t (λ e. ap Refused (same-refused e), λ e. ap refusedBy (same-refusal e))) (λ t. rw t (in-order r)))
         (first-iff r (newFileOrder frozen log lent ws))
+
+-- An answer of the programs is refused exactly where fewer bytes are lent than the longest one needs; a refused pick is an answer like any other.
+pub answer-first : (longest lent : ℕ) (answer : List ℕ) (r : Refusal)
+    → (answered longest lent answer .verdict ≡ Refused r) ↔ First r (roomStage longest lent ∷ [])
+unfolding answered roomStage inTurn
+answer-first longest lent answer = by-order (roomStage longest lent ∷ []) given
+  where
+    given : answered longest lent answer .verdict ≡ inTurn (roomStage longest lent ∷ [])
+    given = split (ltb lent longest) (λ t. rw t) (λ t. rw t)
 
 -- ---- the stages of a pick that look at many things
 
