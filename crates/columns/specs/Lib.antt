@@ -3,6 +3,7 @@ pub mod ByteSets
 pub mod Patterns
 pub mod Terminators
 pub mod Rows
+pub mod Fields
 pub mod Layout
 pub mod Kinds
 pub mod Table

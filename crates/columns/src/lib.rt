@@ -2,11 +2,13 @@
 // of bytes that it is lent. Assumes nothing of the caller: a record is any slice, and a byte past its end reads as 0, which is legal
 // nowhere.
 mod byte_sets;
+pub mod field;
 mod matcher;
 mod tables;
 
 ghost use mathlib.Core.Path.{_≡_};
 ghost use Rattle.columns.specs.Kinds.{kindOf, firstBadField};
+use field::Field;
 
 pub enum Kind {
     Primary,
@@ -17,7 +19,7 @@ pub enum Kind {
 pub fn kind_of(rec: &[u8]) -> Kind
     ensures { λ r. ⌜ r ≡ kindOf (now (rec .entry)) ⌝ }
 {
-    if byte_sets::in_set(b'k', slices::byte_at(rec, 38)) {
+    if byte_sets::in_set(b'k', slices::byte_at(rec, Field::CONTINUATION.0 - 1)) {
         Kind::Continuation
     } else {
         Kind::Primary

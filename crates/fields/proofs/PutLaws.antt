@@ -41,6 +41,10 @@ as-put at bs x e = e
 pub as-right : (at : ℕ) (bs x : List ℕ) {q r : Bool} {z : List ℕ} → q ≡ r → z ≡ put at (orZero q bs) x → z ≡ put at (orZero r bs) x
 as-right at bs x {q} {r} {z} h e = subst (λ (t : Bool). z ≡ put at (orZero t bs) x) h e
 
+-- .. or how many digits there are
+pub as-wide : (at v : ℕ) (x : List ℕ) {n m : ℕ} {z : List ℕ} → n ≡ m → z ≡ put at (marked [] n [] v) x → z ≡ put at (marked [] m [] v) x
+as-wide at v x {n} {m} {z} h e = subst (λ (k : ℕ). z ≡ put at (marked [] k [] v) x) h e
+
 pub length-putAll : (ps : List Piece) (out : List ℕ) → length (putAll ps out) ≡ length out
 unfolding putAll put
 length-putAll [] out = refl

@@ -3,9 +3,10 @@
 use mathlib.Core.Path.{_≡_, sym, ap, _∙_}
 use mathlib.Core.Bool.{Bool, true, false, _&&_}
 use mathlib.Core.List.{List, append-nil}
-use Prim.Native.Nat.{ℕ, _+_, _-_, _≤_, _<_}
+use Prim.Native.Nat.{ℕ, _+_, _-_, _≤_, _<_, min}
 use Prim.Native.Char.{code}
 use native.Mathlib.Omega.{arith}
+use native.Mathlib.Nat.{add-zero, min-eq-left}
 use lib.Dec.{eqb}
 use lib.ListN.{length, getD, replicate, List·getD-eq-default}
 use lib.Seq.{sets, sets-eq}
@@ -44,6 +45,12 @@ module _ (rec : List ℕ) (at : ℕ) {b : ℕ} (e : b ≡ getD rec at 0) where
 -- the 83 bytes copied into as many
 pub copied-whole : (bs : List ℕ) → length bs ≡ 83 → sets (replicate 83 0) 0 bs ≡ bs
 copied-whole bs e = sets-eq bs (replicate 83 0) 0 (omega arith) ∙ rw e (append-nil bs)
+
+-- ---- plain digits
+
+-- up to six columns are read whole
+pub six-digits : (n at : ℕ) (rec : List ℕ) {v : ℕ} → n ≤ 6 → v ≡ value (part (min n 6) at rec) → v ≡ value (part n at rec)
+six-digits n at rec h e = e ∙ ap (λ (k : ℕ). value (part k at rec)) (min-eq-left h)
 
 -- ---- the turn
 
@@ -91,25 +98,22 @@ module _ (rec : List ℕ) (holding : Bool) (filled : blank (part 4 74 rec) ≡ f
   unfolding distanceOf
   distance-miles h f = rw (filled, byte-of 4 74 rec 0 (omega arith) e, h, ← f)
 
-module _ (rec : List ℕ) (at : ℕ) (filled : blank (part 5 at rec) ≡ false) {b : ℕ} (e : b ≡ getD rec at 0) where
-  mark : getD (part 5 at rec) 0 0 ≡ b
-  unfolding part
-  mark = sym e
+module _ (rec : List ℕ) (n at : ℕ) (w : n ≡ 5) (filled : blank (part n at rec) ≡ false) {b : ℕ} (e : b ≡ getD rec at 0) where
+  mark : getD (part n at rec) 0 0 ≡ b
+  mark = byte-of n at rec 0 (omega arith) (rw add-zero e)
 
-  pub altitude-level : {v : ℕ} → b ≡ code "F" → v ≡ value (part 3 (at + 2) rec) → altitude.Level (record { 0 = v }) ≡ altitudeOf (part 5 at rec)
+  pub altitude-level : {v : ℕ} → b ≡ code "F" → v ≡ value (part 3 (at + 2) rec) → altitude.Level (record { 0 = v }) ≡ altitudeOf (part n at rec)
   unfolding altitudeOf
-  altitude-level h f = rw (filled, mark, h, digits-of 3 2 5 at rec (omega arith) f)
+  altitude-level h f = rw (filled, mark, h, digits-of 3 2 n at rec (omega arith) f)
 
-  pub altitude-below : {v : ℕ} → b ≡ code "-" → v ≡ value (part 4 (at + 1) rec) → altitude.Below (record { 0 = v }) ≡ altitudeOf (part 5 at rec)
+  pub altitude-below : {v : ℕ} → b ≡ code "-" → v ≡ value (part 4 (at + 1) rec) → altitude.Below (record { 0 = v }) ≡ altitudeOf (part n at rec)
   unfolding altitudeOf
-  altitude-below h f = rw (filled, mark, h, digits-of 4 1 5 at rec (omega arith) f)
+  altitude-below h f = rw (filled, mark, h, digits-of 4 1 n at rec (omega arith) f)
 
-  pub altitude-feet : {v : ℕ} → (b ≡ code "F" → ⊥) → (b ≡ code "-" → ⊥) → v ≡ value (part 5 at rec) → altitude.Feet (record { 0 = v }) ≡ altitudeOf (part 5 at rec)
+  pub altitude-feet : {v : ℕ} → (b ≡ code "F" → ⊥) → (b ≡ code "-" → ⊥) → v ≡ value (part n at rec) → altitude.Feet (record { 0 = v }) ≡ altitudeOf (part n at rec)
   unfolding altitudeOf
   altitude-feet h k f = rw (filled, mark, ne-eqb b (code "F") h, ne-eqb b (code "-") k, ← f)
 
 pub vertical-down : (rec : List ℕ) {v : ℕ} → blank (part 4 102 rec) ≡ false → v ≡ value (part 3 103 rec) → verticalAngle.Down (record { 0 = v }) ≡ verticalAngleOf (part 4 102 rec)
 unfolding verticalAngleOf
 vertical-down rec filled f = rw (filled, digits-of 3 1 4 102 rec (omega arith) f)
-
--- ---- the size of one record

@@ -7,6 +7,7 @@ use mathlib.Core.List.{List, [], _∷_, _++_}
 use lib.ListN.{length, replicate}
 use lib.Seq.{sets}
 use Rattle.slices.specs.Part.{part}
+use Rattle.columns.specs.declared.field.Field.{Field}
 
 -- a field's first column, its width, and the bytes that are put there; the rest of its columns stay blank
 pub record Piece : Type 0 where
@@ -32,6 +33,10 @@ withBlanks w bs = bs ++ replicate (w - length bs) 32
 -- bytes put over what is there, from a place on
 unfoldable pub put : ℕ → List ℕ → List ℕ → List ℕ
 put at bs out = sets out at bs
+
+-- .. from the first column of a field on
+abbrev pub fill : Field → List ℕ → List ℕ → List ℕ
+fill f bs out = put (f .0 - 1) bs out
 
 -- the pieces put over what is there, one after the other
 unfoldable pub putAll : List Piece → List ℕ → List ℕ

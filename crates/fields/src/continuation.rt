@@ -7,9 +7,13 @@ use crate::head::Head;
 use crate::head::Tail;
 use crate::head::is_continuation_number;
 use crate::text::Letter;
+use crate::text::byte_in;
 use crate::text::put_if;
-use slices::byte_at;
+use columns::field::Field;
 use slices::copy;
+
+// How many bytes of a record stand before the 83.
+const START: usize = Field::CONTENT.0 - 1;
 
 pub struct Continuation {
     pub head: Head,
@@ -23,7 +27,7 @@ pub fn content_of(rec: &[u8]) -> [u8; 83]
     ensures { λ r. ⌜ r ≡ columns 41 123 (now (rec .entry)) ⌝ }
 {
     let mut content = [0u8; 83];
-    copy(rec, 40, &mut content, 0, 83);
+    copy(rec, START, &mut content, 0, 83);
     content
 }
 
@@ -34,8 +38,8 @@ impl Continuation {
     {
         Continuation {
             head: Head::of(rec),
-            number: byte_at(rec, 38),
-            application: Letter::of(rec, 39),
+            number: byte_in(rec, Field::CONTINUATION),
+            application: Letter::of(rec, Field::APPLICATION),
             tail: Tail::of(rec),
         }
     }
@@ -47,12 +51,12 @@ impl Continuation {
         let application = self.application;
         put_if(
             &mut *out,
-            38,
+            Field::CONTINUATION,
             is_continuation_number(self.number),
             self.number,
         );
-        application.put(&mut *out, 39);
-        copy(&content, 0, &mut *out, 40, 83);
+        application.put(&mut *out, Field::APPLICATION);
+        copy(&content, 0, &mut *out, START, 83);
     }
 
     // The record of the continuation, whether it is legal or not.

@@ -3,13 +3,14 @@
 ghost use mathlib.Core.Path.{_≡_};
 ghost use Rattle.fields.specs.Pieces.{putAll};
 ghost use Rattle.fields.specs.Head.{continues, routeOf, fixOf, headOf, cycleOf, tailOf, routePieces, placePieces, headPieces, tailPieces};
+use crate::numbers::number_in;
 use crate::numbers::put_number;
 use crate::text::Letter;
 use crate::text::Text;
 use crate::text::Word;
+use crate::text::byte_in;
 use crate::text::put_byte;
-use digits::number;
-use slices::byte_at;
+use columns::field::Field;
 
 // Columns 1-25, by which a route is known. Column 5 is always P.
 pub struct Route {
@@ -60,14 +61,14 @@ impl Route {
         ensures { λ r. ⌜ r ≡ routeOf (now (rec .entry)) ⌝ }
     {
         Route {
-            record_type: byte_at(rec, 0),
-            area: Text::of(rec, 1, 3),
-            airport: Text::of(rec, 6, 4),
-            icao: Text::of(rec, 10, 2),
-            subsection: byte_at(rec, 12),
-            procedure: Text::of(rec, 13, 6),
-            route_type: byte_at(rec, 19),
-            transition: Word::of(rec, 20, 5),
+            record_type: byte_in(rec, Field::RECORD_TYPE),
+            area: Text::of(rec, Field::AREA),
+            airport: Text::of(rec, Field::AIRPORT),
+            icao: Text::of(rec, Field::AIRPORT_ICAO),
+            subsection: byte_in(rec, Field::SUBSECTION),
+            procedure: Text::of(rec, Field::PROCEDURE),
+            route_type: byte_in(rec, Field::ROUTE_TYPE),
+            transition: Word::of(rec, Field::TRANSITION),
         }
     }
 
@@ -75,15 +76,15 @@ impl Route {
         ensures { λ _. ⌜ now (out .exit) ≡ putAll (routePieces self) (now (out .entry)) ⌝ }
     {
         let transition = self.transition;
-        put_byte(&mut *out, 0, self.record_type);
-        self.area.put(&mut *out, 1, 3);
-        put_byte(&mut *out, 4, b'P');
-        self.airport.put(&mut *out, 6, 4);
-        self.icao.put(&mut *out, 10, 2);
-        put_byte(&mut *out, 12, self.subsection);
-        self.procedure.put(&mut *out, 13, 6);
-        put_byte(&mut *out, 19, self.route_type);
-        transition.put(&mut *out, 20, 5);
+        put_byte(&mut *out, Field::RECORD_TYPE, self.record_type);
+        self.area.put(&mut *out, Field::AREA);
+        put_byte(&mut *out, Field::SECTION, b'P');
+        self.airport.put(&mut *out, Field::AIRPORT);
+        self.icao.put(&mut *out, Field::AIRPORT_ICAO);
+        put_byte(&mut *out, Field::SUBSECTION, self.subsection);
+        self.procedure.put(&mut *out, Field::PROCEDURE);
+        put_byte(&mut *out, Field::ROUTE_TYPE, self.route_type);
+        transition.put(&mut *out, Field::TRANSITION);
     }
 }
 
@@ -92,10 +93,10 @@ impl Fix {
         ensures { λ r. ⌜ r ≡ fixOf (now (rec .entry)) ⌝ }
     {
         Fix {
-            identifier: Word::of(rec, 29, 5),
-            icao: Word::of(rec, 34, 2),
-            section: Letter::of(rec, 36),
-            subsection: byte_at(rec, 37),
+            identifier: Word::of(rec, Field::FIX),
+            icao: Word::of(rec, Field::FIX_ICAO),
+            section: Letter::of(rec, Field::FIX_SECTION),
+            subsection: byte_in(rec, Field::FIX_SUBSECTION),
         }
     }
 }
@@ -106,7 +107,7 @@ impl Head {
     {
         Head {
             route: Route::of(rec),
-            sequence: number(rec, 26, 3),
+            sequence: number_in(rec, Field::SEQUENCE),
             fix: Fix::of(rec),
         }
     }
@@ -119,11 +120,11 @@ impl Head {
         let identifier = fix.identifier;
         let icao = fix.icao;
         let section = fix.section;
-        put_number(&mut *out, 26, 3, self.sequence);
-        identifier.put(&mut *out, 29, 5);
-        icao.put(&mut *out, 34, 2);
-        section.put(&mut *out, 36);
-        put_byte(&mut *out, 37, fix.subsection);
+        put_number(&mut *out, Field::SEQUENCE, self.sequence);
+        identifier.put(&mut *out, Field::FIX);
+        icao.put(&mut *out, Field::FIX_ICAO);
+        section.put(&mut *out, Field::FIX_SECTION);
+        put_byte(&mut *out, Field::FIX_SUBSECTION, fix.subsection);
     }
 
     pub(crate) fn put(self, out: &mut [u8])
@@ -140,8 +141,8 @@ impl Cycle {
         ensures { λ r. ⌜ r ≡ cycleOf (now (rec .entry)) ⌝ }
     {
         Cycle {
-            year: number(rec, 128, 2),
-            number: number(rec, 130, 2),
+            year: number_in(rec, Field::YEAR),
+            number: number_in(rec, Field::CYCLE),
         }
     }
 }
@@ -151,7 +152,7 @@ impl Tail {
         ensures { λ r. ⌜ r ≡ tailOf (now (rec .entry)) ⌝ }
     {
         Tail {
-            record_number: number(rec, 123, 5),
+            record_number: number_in(rec, Field::RECORD_NUMBER),
             cycle: Cycle::of(rec),
         }
     }
@@ -160,8 +161,8 @@ impl Tail {
         ensures { λ _. ⌜ now (out .exit) ≡ putAll (tailPieces self) (now (out .entry)) ⌝ }
     {
         let cycle = self.cycle;
-        put_number(&mut *out, 123, 5, self.record_number);
-        put_number(&mut *out, 128, 2, cycle.year);
-        put_number(&mut *out, 130, 2, cycle.number);
+        put_number(&mut *out, Field::RECORD_NUMBER, self.record_number);
+        put_number(&mut *out, Field::YEAR, cycle.year);
+        put_number(&mut *out, Field::CYCLE, cycle.number);
     }
 }

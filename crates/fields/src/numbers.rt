@@ -1,12 +1,17 @@
-// Numbers in decimal digits, put into columns between marks. Assumes of its callers, all in this crate, that a
-// number has at most six digits and a mark at most two letters.
+// Numbers in decimal digits, read from a field's columns and put there between marks. Assumes of its callers, all in this crate, that
+// columns count from 1 to 132, a number has at most six digits, and a mark at most two letters.
 ghost use mathlib.Core.Path.{_≡_};
 ghost use mathlib.Core.List.{[]};
 ghost use Prim.Native.Nat.{_+_, _-_, _^_, _≤_, _<_};
 ghost use lib.ListN.{length};
 ghost use lib.Seq.{sets};
-ghost use Rattle.fields.specs.Pieces.{put};
+ghost use Rattle.slices.specs.Part.{part};
+ghost use Rattle.digits.specs.Digits.{value};
+ghost use Rattle.columns.specs.Fields.{bytesIn};
+ghost use Rattle.fields.specs.Pieces.{fill};
 ghost use Rattle.fields.specs.Numbers.{digitsOf, marked};
+use columns::field::Field;
+use digits::number;
 use slices::copy;
 use slices::put_after;
 
@@ -41,15 +46,16 @@ fn put_digits(out: &mut [u8], at: usize, width: usize, n: u32)
 // Puts a number of `width` digits between its marks; one of more digits leaves a byte 0, which is legal nowhere.
 pub(crate) fn put_marked(
     out: &mut [u8],
-    at: usize,
+    field: Field,
     before: &[u8],
     width: usize,
     after: &[u8],
     n: u32,
 )
-    requires { ⌜ (at ≤ 132) × (length (now before) ≤ 2) × (width ≤ 6) ⌝ }
-    ensures { λ _. ⌜ now (out .exit) ≡ put at (marked (now (before .entry)) width (now (after .entry)) n) (now (out .entry)) ⌝ }
+    requires { ⌜ (1 ≤ field .0) × (field .0 ≤ 132) × (length (now before) ≤ 2) × (width ≤ 6) ⌝ }
+    ensures { λ _. ⌜ now (out .exit) ≡ fill field (marked (now (before .entry)) width (now (after .entry)) n) (now (out .entry)) ⌝ }
 {
+    let at = field.0 - 1;
     if n < power(width) {
         let from = at + before.len();
         copy(before, 0, &mut *out, at, before.len());
@@ -60,10 +66,26 @@ pub(crate) fn put_marked(
     }
 }
 
-// Puts a number of `width` digits.
-pub(crate) fn put_number(out: &mut [u8], at: usize, width: usize, n: u32)
-    requires { ⌜ (at ≤ 132) × (width ≤ 6) ⌝ }
-    ensures { λ _. ⌜ now (out .exit) ≡ put at (marked [] width [] n) (now (out .entry)) ⌝ }
+// Puts a number of as many digits as the field has columns.
+pub(crate) fn put_number(out: &mut [u8], field: Field, n: u32)
+    requires { ⌜ (1 ≤ field .0) × (field .0 ≤ 132) × (field .1 ≤ 6) ⌝ }
+    ensures { λ _. ⌜ now (out .exit) ≡ fill field (marked [] (field .1) [] n) (now (out .entry)) ⌝ }
 {
-    put_marked(&mut *out, at, b"", width, b"", n);
+    put_marked(&mut *out, field, b"", field.1, b"", n);
+}
+
+// The number that a field's columns say.
+pub(crate) fn number_in(rec: &[u8], field: Field) -> u32
+    requires { ⌜ (1 ≤ field .0) × (field .1 ≤ 6) ⌝ }
+    ensures { λ r. ⌜ r ≡ value (bytesIn field (now (rec .entry))) ⌝ }
+{
+    number(rec, field.0 - 1, field.1)
+}
+
+// The number that `width` of a field's columns say, past its first k.
+pub(crate) fn number_within(rec: &[u8], field: Field, k: usize, width: usize) -> u32
+    requires { ⌜ (1 ≤ field .0) × (field .0 ≤ 132) × (k ≤ 6) × (width ≤ 6) ⌝ }
+    ensures { λ r. ⌜ r ≡ value (part width (field .0 - 1 + k) (now (rec .entry))) ⌝ }
+{
+    number(rec, field.0 - 1 + k, width)
 }

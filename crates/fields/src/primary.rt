@@ -18,11 +18,12 @@ use crate::quantities::TransitionAltitude;
 use crate::quantities::VerticalAngle;
 use crate::text::Letter;
 use crate::text::Word;
+use crate::text::byte_in;
 use crate::text::put_byte;
 use crate::text::put_if;
 use crate::turn::Turn;
+use columns::field::Field;
 use leg::terminator::Terminator;
-use slices::byte_at;
 
 // The codes of columns 40-43, in which a blank is a code too.
 pub struct Description(pub u8, pub u8, pub u8, pub u8);
@@ -77,10 +78,10 @@ impl Description {
         ensures { λ r. ⌜ r ≡ descriptionOf (now (rec .entry)) ⌝ }
     {
         Description(
-            byte_at(rec, 39),
-            byte_at(rec, 40),
-            byte_at(rec, 41),
-            byte_at(rec, 42),
+            byte_in(rec, Field::FIRST_DESCRIPTION),
+            byte_in(rec, Field::SECOND_DESCRIPTION),
+            byte_in(rec, Field::THIRD_DESCRIPTION),
+            byte_in(rec, Field::FOURTH_DESCRIPTION),
         )
     }
 }
@@ -90,10 +91,10 @@ impl Navaid {
         ensures { λ r. ⌜ r ≡ navaidOf (now (rec .entry)) ⌝ }
     {
         Navaid {
-            identifier: Word::of(rec, 50, 4),
-            icao: Word::of(rec, 54, 2),
-            section: Letter::of(rec, 78),
-            subsection: byte_at(rec, 79),
+            identifier: Word::of(rec, Field::NAVAID),
+            icao: Word::of(rec, Field::NAVAID_ICAO),
+            section: Letter::of(rec, Field::NAVAID_SECTION),
+            subsection: byte_in(rec, Field::NAVAID_SUBSECTION),
         }
     }
 }
@@ -103,11 +104,11 @@ impl CentreFix {
         ensures { λ r. ⌜ r ≡ centreFixOf (now (rec .entry)) ⌝ }
     {
         CentreFix {
-            identifier: Word::of(rec, 106, 5),
-            multiple: Letter::of(rec, 111),
-            icao: Word::of(rec, 112, 2),
-            section: Letter::of(rec, 114),
-            subsection: byte_at(rec, 115),
+            identifier: Word::of(rec, Field::CENTRE_FIX),
+            multiple: Letter::of(rec, Field::CENTRE_FIX_MULTIPLE),
+            icao: Word::of(rec, Field::CENTRE_FIX_ICAO),
+            section: Letter::of(rec, Field::CENTRE_FIX_SECTION),
+            subsection: byte_in(rec, Field::CENTRE_FIX_SUBSECTION),
         }
     }
 }
@@ -120,29 +121,29 @@ impl Leg {
         let terminator = Terminator::of(rec);
         Leg {
             head: Head::of(rec),
-            continuation: byte_at(rec, 38),
+            continuation: byte_in(rec, Field::CONTINUATION),
             description: Description::of(rec),
             turn: Turn::of(rec),
             rnp: Rnp::of(rec),
             terminator: terminator,
-            turn_valid: Letter::of(rec, 49),
+            turn_valid: Letter::of(rec, Field::TURN_VALID),
             navaid: Navaid::of(rec),
             arc_radius: ArcRadius::of(rec),
             theta: Theta::of(rec),
             rho: Rho::of(rec),
             course: Course::of(rec),
             distance: Distance::of(rec, terminator),
-            altitude_description: byte_at(rec, 82),
-            atc: Letter::of(rec, 83),
-            altitude: Altitude::of(rec, 84),
-            second_altitude: Altitude::of(rec, 89),
+            altitude_description: byte_in(rec, Field::ALTITUDE_DESCRIPTION),
+            atc: Letter::of(rec, Field::ATC),
+            altitude: Altitude::of(rec, Field::ALTITUDE),
+            second_altitude: Altitude::of(rec, Field::SECOND_ALTITUDE),
             transition_altitude: TransitionAltitude::of(rec),
             speed: Speed::of(rec),
             vertical_angle: VerticalAngle::of(rec),
             centre_fix: CentreFix::of(rec),
-            gps: Letter::of(rec, 116),
-            qualifier: Letter::of(rec, 118),
-            second_qualifier: Letter::of(rec, 119),
+            gps: Letter::of(rec, Field::GPS),
+            qualifier: Letter::of(rec, Field::QUALIFIER),
+            second_qualifier: Letter::of(rec, Field::SECOND_QUALIFIER),
             tail: Tail::of(rec),
         }
     }
@@ -159,17 +160,17 @@ impl Leg {
         let identifier = navaid.identifier;
         let icao = navaid.icao;
         let primary = !is_continuation_number(self.continuation);
-        put_if(&mut *out, 38, primary, self.continuation);
-        put_byte(&mut *out, 39, self.description.0);
-        put_byte(&mut *out, 40, self.description.1);
-        put_byte(&mut *out, 41, self.description.2);
-        put_byte(&mut *out, 42, self.description.3);
+        put_if(&mut *out, Field::CONTINUATION, primary, self.continuation);
+        put_byte(&mut *out, Field::FIRST_DESCRIPTION, self.description.0);
+        put_byte(&mut *out, Field::SECOND_DESCRIPTION, self.description.1);
+        put_byte(&mut *out, Field::THIRD_DESCRIPTION, self.description.2);
+        put_byte(&mut *out, Field::FOURTH_DESCRIPTION, self.description.3);
         turn.put(&mut *out);
         rnp.put(&mut *out);
         terminator.put(&mut *out);
-        turn_valid.put(&mut *out, 49);
-        identifier.put(&mut *out, 50, 4);
-        icao.put(&mut *out, 54, 2);
+        turn_valid.put(&mut *out, Field::TURN_VALID);
+        identifier.put(&mut *out, Field::NAVAID);
+        icao.put(&mut *out, Field::NAVAID_ICAO);
     }
 
     // Columns 57-82.
@@ -188,8 +189,8 @@ impl Leg {
         rho.put(&mut *out);
         course.put(&mut *out);
         distance.put(&mut *out);
-        section.put(&mut *out, 78);
-        put_byte(&mut *out, 79, navaid.subsection);
+        section.put(&mut *out, Field::NAVAID_SECTION);
+        put_byte(&mut *out, Field::NAVAID_SUBSECTION, navaid.subsection);
     }
 
     // Columns 83-106.
@@ -202,10 +203,14 @@ impl Leg {
         let transition_altitude = self.transition_altitude;
         let speed = self.speed;
         let vertical_angle = self.vertical_angle;
-        put_byte(&mut *out, 82, self.altitude_description);
-        atc.put(&mut *out, 83);
-        altitude.put(&mut *out, 84);
-        second_altitude.put(&mut *out, 89);
+        put_byte(
+            &mut *out,
+            Field::ALTITUDE_DESCRIPTION,
+            self.altitude_description,
+        );
+        atc.put(&mut *out, Field::ATC);
+        altitude.put(&mut *out, Field::ALTITUDE);
+        second_altitude.put(&mut *out, Field::SECOND_ALTITUDE);
         transition_altitude.put(&mut *out);
         speed.put(&mut *out);
         vertical_angle.put(&mut *out);
@@ -223,14 +228,18 @@ impl Leg {
         let gps = self.gps;
         let qualifier = self.qualifier;
         let second_qualifier = self.second_qualifier;
-        identifier.put(&mut *out, 106, 5);
-        multiple.put(&mut *out, 111);
-        icao.put(&mut *out, 112, 2);
-        section.put(&mut *out, 114);
-        put_byte(&mut *out, 115, centre_fix.subsection);
-        gps.put(&mut *out, 116);
-        qualifier.put(&mut *out, 118);
-        second_qualifier.put(&mut *out, 119);
+        identifier.put(&mut *out, Field::CENTRE_FIX);
+        multiple.put(&mut *out, Field::CENTRE_FIX_MULTIPLE);
+        icao.put(&mut *out, Field::CENTRE_FIX_ICAO);
+        section.put(&mut *out, Field::CENTRE_FIX_SECTION);
+        put_byte(
+            &mut *out,
+            Field::CENTRE_FIX_SUBSECTION,
+            centre_fix.subsection,
+        );
+        gps.put(&mut *out, Field::GPS);
+        qualifier.put(&mut *out, Field::QUALIFIER);
+        second_qualifier.put(&mut *out, Field::SECOND_QUALIFIER);
     }
 
     // The record of the leg, whether it is legal or not.

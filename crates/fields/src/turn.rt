@@ -1,11 +1,12 @@
 // The turn of a leg. Assumes nothing of the caller.
 ghost use mathlib.Core.Path.{_≡_};
-ghost use Rattle.fields.specs.Pieces.{put};
-ghost use Rattle.slices.specs.Part.{part};
+ghost use Rattle.columns.specs.Fields.{field};
+ghost use Rattle.columns.specs.Words.{columns};
+ghost use Rattle.fields.specs.Pieces.{fill};
 ghost use Rattle.fields.specs.Turn.{turnOf, turnBytes};
+use crate::text::byte_in;
 use crate::text::put_byte;
-use leg::terminator::Terminator;
-use slices::byte_at;
+use columns::field::Field;
 
 pub enum Turn {
     Absent,
@@ -17,9 +18,9 @@ pub enum Turn {
 impl Turn {
     // The turn in column 44.
     pub(crate) fn of(rec: &[u8]) -> Turn
-        ensures { λ r. ⌜ r ≡ turnOf (part 1 43 (now (rec .entry))) ⌝ }
+        ensures { λ r. ⌜ r ≡ turnOf (columns 44 44 (now (rec .entry))) ⌝ }
     {
-        let b = byte_at(rec, Terminator::TURN - 1);
+        let b = byte_in(rec, Field::TURN);
         if b == b'L' {
             return Turn::Left;
         }
@@ -33,13 +34,13 @@ impl Turn {
     }
 
     pub(crate) fn put(self, out: &mut [u8])
-        ensures { λ _. ⌜ now (out .exit) ≡ put 43 (turnBytes self) (now (out .entry)) ⌝ }
+        ensures { λ _. ⌜ now (out .exit) ≡ fill (field 44 44) (turnBytes self) (now (out .entry)) ⌝ }
     {
         match self {
             Turn::Absent => {}
-            Turn::Left => put_byte(&mut *out, Terminator::TURN - 1, b'L'),
-            Turn::Right => put_byte(&mut *out, Terminator::TURN - 1, b'R'),
-            Turn::Either => put_byte(&mut *out, Terminator::TURN - 1, b'E'),
+            Turn::Left => put_byte(&mut *out, Field::TURN, b'L'),
+            Turn::Right => put_byte(&mut *out, Field::TURN, b'R'),
+            Turn::Either => put_byte(&mut *out, Field::TURN, b'E'),
         }
     }
 }

@@ -2,20 +2,22 @@
 -- Assumes nothing.
 use mathlib.Core.Path.{_≡_, refl, sym, ap, subst, _∙_}
 use mathlib.Core.Logic.{_↔_, inl, inr, ⊎-elim, Iff·trans, Iff·and, Iff·rfl}
-use mathlib.Core.Bool.{Bool, true, false, cond, _&&_, _||_, false≢true}
+use mathlib.Core.Bool.{Bool, true, false, cond, _&&_, false≢true}
 use mathlib.Core.List.{List, [], _∷_, map, List·Memᴰ, List·Memᴰ·cases-cons, List·Memᴰ·not-nil}
 use Prim.Native.Nat.{ℕ, _≤_}
 use Prim.Native.Char.{Char, code}
 use native.Mathlib.Omega.{arith}
 use lib.Dec.{eqb}
 use borrow.Author.Tests.{eqb-true, eq-eqb}
-use Rattle.slices.specs.Part.{blank}
-use Rattle.slices.proofs.Cases.{split, or-iff}
+use Rattle.slices.specs.Part.{blank, member}
+use Rattle.slices.proofs.Cases.{split, either, or-left, or-right}
 use Rattle.slices.proofs.PartLaws.{blank-iff, member-iff}
 use Rattle.columns.specs.Patterns.{codes, texts}
 use Rattle.columns.specs.Terminators.{terminators}
 use Rattle.columns.specs.Kinds.{kindOf, firstBadField}
 use Rattle.columns.specs.Rows.{byteIn}
+use Rattle.columns.specs.Fields.{field, bytesIn}
+use Rattle.columns.specs.declared.field.Field.{Field}
 use Rattle.columns.specs.Words.{columns, Content, PrimaryContent}
 use Rattle.columns.proofs.Content.{legal, primary-kind, continuation-kind}
 use Rattle.refusals.specs.Table.{fieldContent, companionBlank, neededBlank}
@@ -24,9 +26,11 @@ use Rattle.refusals.specs.declared.Verdict.{Verdict}
 use Rattle.refusals.specs.declared.Verdict.the-variants.{Accepted, Refused}
 use Rattle.leg.specs.Terminator.{terminatorOf, inOrder, nameOf, terminatorNumber, needed}
 use Rattle.leg.specs.declared.terminator.Terminator.{Terminator}
-use Rattle.leg.specs.Stages.{oddOne, missing, asks, companionColumn, neededOf, neededColumn}
+use Rattle.leg.specs.Stages.{oddOne, companionColumn, needable, asks, missing, neededOf, neededColumn}
+use Rattle.leg.specs.declared.stages.Needable.{Needable}
 use Rattle.leg.specs.Judge.{stage, judgedLeg, byKind, judged}
 use Rattle.leg.specs.Legal.{Filled, Companions, Needs, NeededFields, LegalLeg, Legal}
+use Rattle.leg.proofs.StageLaws.{counted, counted-first, counted-rest}
 use Rattle.leg.proofs.TerminatorLaws.{row-of}
 
 -- ---- blank and filled
@@ -48,14 +52,19 @@ stage-iff c f next = (to, λ h. rw (h .0) (h .1))
         split (eqb c 0) (λ t. (eqb-true c 0 t, rw t at e))
         (λ t. let q : Refused (f c) ≡ Accepted = rw t at e in let z : _≡_ {A = ℕ} 0 1 = cc in absurd (omega arith))
 
+-- where no field is left to look at
+none-left : (_≡_ {A = ℕ} 0 0) ↔ Unit {0}
+none-left = (λ _. tt, λ _. refl)
+
 -- ---- companions
 
-odd-iff : {R : Type 0} (f g h : List ℕ) (a b c rest : ℕ) → 1 ≤ a → 1 ≤ b → 1 ≤ c → (rest ≡ 0) ↔ R
-    → (oddOne (blank f) (blank g) (blank h) a b c rest ≡ 0) ↔ (Companions f g h × R)
-unfolding oddOne
-odd-iff f g h a b c rest ha hb hc r = Iff·trans (to (blank f) (blank g) (blank h) refl refl refl, from) (Iff·and Iff·rfl r)
+abbrev odd : (x y z : Bool) (a b c rest : ℕ) → ℕ
+odd x y z a b c rest = cond (x && (y && z)) rest (cond x a (cond y b (cond z c rest)))
+
+together-iff : (f g h : List ℕ) (a b c rest : ℕ) → 1 ≤ a → 1 ≤ b → 1 ≤ c → (odd (blank f) (blank g) (blank h) a b c rest ≡ 0) ↔ (Companions f g h × (rest ≡ 0))
+together-iff f g h a b c rest ha hb hc = (to (blank f) (blank g) (blank h) refl refl refl, from)
   where
-    to : (x y z : Bool) → blank f ≡ x → blank g ≡ y → blank h ≡ z → cond (x && (y && z)) rest (cond x a (cond y b (cond z c rest))) ≡ 0 → Companions f g h × (rest ≡ 0)
+    to : (x y z : Bool) → blank f ≡ x → blank g ≡ y → blank h ≡ z → odd x y z a b c rest ≡ 0 → Companions f g h × (rest ≡ 0)
     to true true true p q r e = (inl (blank-iff f .0 p, blank-iff g .0 q, blank-iff h .0 r), e)
     to true true false p q r e = absurd (omega arith)
     to true false true p q r e = absurd (omega arith)
@@ -65,31 +74,47 @@ odd-iff f g h a b c rest ha hb hc r = Iff·trans (to (blank f) (blank g) (blank 
     to false false true p q r e = absurd (omega arith)
     to false false false p q r e = (inr (filled f p, filled g q, filled h r), e)
 
-    from : Companions f g h × (rest ≡ 0) → cond (blank f && (blank g && blank h)) rest (cond (blank f) a (cond (blank g) b (cond (blank h) c rest))) ≡ 0
+    from : Companions f g h × (rest ≡ 0) → odd (blank f) (blank g) (blank h) a b c rest ≡ 0
     from (inl (p, q, r), e) = rw (blank-iff f .1 p, blank-iff g .1 q, blank-iff h .1 r) e
     from (inr (p, q, r), e) = rw (not-blank f p, not-blank g q, not-blank h r) e
 
+odd-iff : {R : Type 0} (f g h : Field) (rec : List ℕ) (rest : ℕ) → 1 ≤ f .0 → 1 ≤ g .0 → 1 ≤ h .0 → (rest ≡ 0) ↔ R
+    → (oddOne f g h rec rest ≡ 0) ↔ (Companions (bytesIn f rec) (bytesIn g rec) (bytesIn h rec) × R)
+unfolding oddOne
+odd-iff f g h rec rest hf hg hh r =
+    Iff·trans (together-iff (bytesIn f rec) (bytesIn g rec) (bytesIn h rec) (f .0) (g .0) (h .0) rest hf hg hh) (Iff·and Iff·rfl r)
+
 -- ---- needed fields
 
-missing-iff : {N R : Type 0} (n : Bool) (f : List ℕ) (c rest : ℕ) → 1 ≤ c → (n ≡ true) ↔ N → (rest ≡ 0) ↔ R → (missing n f c rest ≡ 0) ↔ ((N → Filled f) × R)
+-- every field that is asked for is filled
+abbrev AllFilled : (ℕ → Bool) → List Needable → List ℕ → Type 0
+AllFilled asked [] rec = Unit {0}
+AllFilled asked (n ∷ ns) rec = (asked (n .0) ≡ true → Filled (bytesIn (n .1) rec)) × AllFilled asked ns rec
+
+missing-iff : (asked : ℕ → Bool) (rec : List ℕ) (ns : List Needable) → counted ns ≡ true → (missing asked ns rec ≡ 0) ↔ AllFilled asked ns rec
 unfolding missing
-missing-iff {N} n f c rest h q k = Iff·trans (to n (blank f) refl refl, from) (Iff·and Iff·rfl k)
+missing-iff asked rec [] h = none-left
+missing-iff asked rec (n ∷ ns) h =
+    Iff·trans (to (asked (n .0)) (blank (bytesIn (n .1) rec)) refl refl, from) (Iff·and Iff·rfl (missing-iff asked rec ns (counted-rest n ns h)))
   where
-    to : (x y : Bool) → n ≡ x → blank f ≡ y → cond (x && y) c rest ≡ 0 → (N → Filled f) × (rest ≡ 0)
-    to true true p r e = absurd (omega arith)
-    to true false p r e = (λ _. filled f r, e)
-    to false y p r e = (λ w. absurd (false≢true (sym p ∙ q .1 w)), e)
+    rest : ℕ
+    rest = missing asked ns rec
 
-    from : (N → Filled f) × (rest ≡ 0) → cond (n && blank f) c rest ≡ 0
-    from (w, e) = split n (λ t. rw (t, not-blank f (w (q .0 t))) e) (λ t. rw t e)
+    First : Type 0
+    First = asked (n .0) ≡ true → Filled (bytesIn (n .1) rec)
 
-asks-iff : (t : Terminator) (c : Char) → (asks t c ≡ true) ↔ Needs t c
+    to : (x y : Bool) → asked (n .0) ≡ x → blank (bytesIn (n .1) rec) ≡ y → cond (x && y) (n .1 .0) rest ≡ 0 → First × (rest ≡ 0)
+    to true true p r e = absurd (counted-first n ns h e)
+    to true false p r e = (λ _. filled (bytesIn (n .1) rec) r, e)
+    to false y p r e = (λ w. absurd (false≢true (sym p ∙ w)), e)
+
+    from : First × (rest ≡ 0) → cond (asked (n .0) && blank (bytesIn (n .1) rec)) (n .1 .0) rest ≡ 0
+    from (w, e) = split (asked (n .0)) (λ t. rw (t, not-blank (bytesIn (n .1) rec) (w t)) e) (λ t. rw t e)
+
+asks-iff : (t : Terminator) (c : Char) → (member (code c) (needed t) ≡ true) ↔ Needs t c
 asks-iff t c = member-iff (code c) (needed t)
 
 -- ---- the stages
-
-none-left : (_≡_ {A = ℕ} 0 0) ↔ Unit {0}
-none-left = (λ _. tt, λ _. refl)
 
 module _ (rec : List ℕ) where
   companions-iff : (companionColumn rec ≡ 0)
@@ -99,48 +124,62 @@ module _ (rec : List ℕ) where
       × Unit {0})))
   unfolding companionColumn
   companions-iff =
-      odd-iff (columns 30 34 rec) (columns 35 36 rec) (columns 37 37 rec) 30 35 37 _ (omega arith) (omega arith) (omega arith)
-      (odd-iff (columns 51 54 rec) (columns 55 56 rec) (columns 79 79 rec) 51 55 79 _ (omega arith) (omega arith) (omega arith)
-      (odd-iff (columns 107 111 rec) (columns 113 114 rec) (columns 115 115 rec) 107 113 115 0 (omega arith) (omega arith) (omega arith)
+      odd-iff (field 30 34) (field 35 36) (field 37 37) rec _ (omega arith) (omega arith) (omega arith)
+      (odd-iff (field 51 54) (field 55 56) (field 79 79) rec _ (omega arith) (omega arith) (omega arith)
+      (odd-iff (field 107 111) (field 113 114) (field 115 115) rec 0 (omega arith) (omega arith) (omega arith)
       none-left))
 
   module _ (t : Terminator) (b : Bool) (B : Type 0) (hb : (b ≡ true) ↔ B) where
-    asked : (c : Char) (f : List ℕ) (at rest : ℕ) {R : Type 0} → 1 ≤ at → (rest ≡ 0) ↔ R → (missing (asks t c) f at rest ≡ 0) ↔ ((Needs t c → Filled f) × R)
-    asked c f at rest h r = missing-iff (asks t c) f at rest h (asks-iff t c) r
-
     needed-iff : (neededOf t b rec ≡ 0) ↔ (NeededFields t rec × (B → Filled (columns 85 89 rec) × Filled (columns 90 94 rec)))
-    unfolding neededOf
+    unfolding neededOf counted
     needed-iff =
-        Iff·trans
-        (asked "F" (columns 30 34 rec) 30 _ (omega arith)
-        (asked "T" (columns 44 44 rec) 44 _ (omega arith)
-        (asked "N" (columns 51 54 rec) 51 _ (omega arith)
-        (asked "X" (columns 57 62 rec) 57 _ (omega arith)
-        (asked "H" (columns 63 66 rec) 63 _ (omega arith)
-        (asked "R" (columns 67 70 rec) 67 _ (omega arith)
-        (asked "C" (columns 71 74 rec) 71 _ (omega arith)
-        (asked "D" (columns 75 78 rec) 75 _ (omega arith)
-        (missing-iff (asks t "A" || b) (columns 85 89 rec) 85 _ (omega arith) (or-iff (asks t "A") b (asks-iff t "A") hb)
-        (missing-iff b (columns 90 94 rec) 90 _ (omega arith) hb
-        (asked "O" (columns 107 111 rec) 107 0 (omega arith)
-        none-left))))))))))) (
+        Iff·trans (missing-iff (asks t b) rec needable refl) (
           λ (fix, (turn, (navaid, (arcRadius, (theta, (rho, (course, (distance, (altitude, (second, (centreFix, _))))))))))). (
             record {
-              fix = fix;
-              turn = turn;
-              navaid = navaid;
-              arcRadius = arcRadius;
-              theta = theta;
-              rho = rho;
-              course = course;
-              distance = distance;
-              altitude = λ n. altitude (inl n);
-              centreFix = centreFix;
+              fix = λ n. fix (asks-iff t "F" .1 n);
+              turn = λ n. turn (asks-iff t "T" .1 n);
+              navaid = λ n. navaid (asks-iff t "N" .1 n);
+              arcRadius = λ n. arcRadius (asks-iff t "X" .1 n);
+              theta = λ n. theta (asks-iff t "H" .1 n);
+              rho = λ n. rho (asks-iff t "R" .1 n);
+              course = λ n. course (asks-iff t "C" .1 n);
+              distance = λ n. distance (asks-iff t "D" .1 n);
+              altitude = λ n. altitude (or-right b (member (code "A") (needed t)) (asks-iff t "A" .1 n));
+              centreFix = λ n. centreFix (asks-iff t "O" .1 n);
             },
-            λ w. (altitude (inr w), second w),
+            λ w. (altitude (or-left b (member (code "A") (needed t)) (hb .1 w)), second (or-left b (member (code " ") (needed t)) (hb .1 w))),
           ),
-          λ (n, w).
-              (n .fix, (n .turn, (n .navaid, (n .arcRadius, (n .theta, (n .rho, (n .course, (n .distance, (⊎-elim (n .altitude) (λ x. w x .0), (λ x. w x .1, (n .centreFix, tt))))))))))),
+          λ (n, w). (
+            λ e. n .fix (asks-iff t "F" .0 e),
+            (
+              λ e. n .turn (asks-iff t "T" .0 e),
+              (
+                λ e. n .navaid (asks-iff t "N" .0 e),
+                (
+                  λ e. n .arcRadius (asks-iff t "X" .0 e),
+                  (
+                    λ e. n .theta (asks-iff t "H" .0 e),
+                    (
+                      λ e. n .rho (asks-iff t "R" .0 e),
+                      (
+                        λ e. n .course (asks-iff t "C" .0 e),
+                        (
+                          λ e. n .distance (asks-iff t "D" .0 e),
+                          (
+                            λ e. ⊎-elim (λ h. w (hb .0 h) .0) (λ h. n .altitude (asks-iff t "A" .0 h)) (either b (member (code "A") (needed t)) e),
+                            (
+                              λ e. ⊎-elim (λ h. w (hb .0 h) .1) (λ h. absurd (false≢true (sym (row-of t .its-letters) ∙ h))) (either b (member (code " ") (needed t)) e),
+                              (λ e. n .centreFix (asks-iff t "O" .0 e), tt),
+                            ),
+                          ),
+                        ),
+                      ),
+                    ),
+                  ),
+                ),
+              ),
+            ),
+          ),
         )
 
 -- ---- the terminator that a legal record names

@@ -1,12 +1,26 @@
--- What one stage does: refuse by the column that it found, or hand on.
+-- What one stage does: refuse by the column that it found, or hand on; and how it finds the column.
 -- Assumes nothing.
-use mathlib.Core.Path.{_≡_}
-use Prim.Native.Nat.{ℕ}
-use borrow.Author.Tests.{ne-eqb}
+use mathlib.Core.Path.{_≡_, sym, _∙_}
+use mathlib.Core.Bool.{Bool, true, false, not, _&&_}
+use mathlib.Core.List.{List, [], _∷_}
+use Prim.Native.Nat.{ℕ, zero, suc, _+_, _≤_, _<_}
+use native.Mathlib.Omega.{arith}
+use native.Mathlib.Numerals.{add-one}
+use native.Mathlib.Nat.{le-of-suc-le-suc, not-suc-le-zero}
+use lib.Dec.{eqb}
+use lib.ListN.{length, getD, drop, drop-of-length-le}
+use lib.Seq.{drop-cons}
+use borrow.Author.Tests.{eqb-false, ne-eqb}
+use Rattle.slices.specs.Part.{blank}
+use Rattle.slices.proofs.Cases.{is-false, and-left, and-right}
+use Rattle.columns.specs.Fields.{bytesIn}
+use Rattle.columns.specs.declared.field.Field.{Field}
 use Rattle.refusals.specs.declared.Refusal.{Refusal}
 use Rattle.refusals.specs.declared.Verdict.{Verdict}
 use Rattle.refusals.specs.declared.Verdict.the-variants.{Refused}
 use Rattle.leg.specs.Judge.{stage}
+use Rattle.leg.specs.Stages.{oddOne, missing}
+use Rattle.leg.specs.declared.stages.Needable.{Needable}
 
 module _ {c x : ℕ} (f : ℕ → Refusal) (next : Verdict) (e : x ≡ c) where
   pub stage-refuses : {r : Refusal} → (x ≡ 0 → ⊥) → r ≡ f x → Refused r ≡ stage c f next
@@ -16,3 +30,61 @@ module _ {c x : ℕ} (f : ℕ → Refusal) (next : Verdict) (e : x ≡ c) where
   pub stage-passes : x ≡ 0 → stage c f next ≡ next
   unfolding stage
   stage-passes h = rw (← e, h)
+
+-- ---- the odd one of three companions
+
+module _ (f g h : Field) (rec : List ℕ) (rest : ℕ) {x y z : Bool} (p : x ≡ blank (bytesIn f rec)) (q : y ≡ blank (bytesIn g rec)) (r : z ≡ blank (bytesIn h rec)) where
+  pub odd-blank : (x && (y && z)) ≡ true → rest ≡ oddOne f g h rec rest
+  unfolding oddOne
+  odd-blank e = rw (← p, ← q, ← r, e)
+
+  pub odd-first : (x && (y && z)) ≡ false → x ≡ true → f .0 ≡ oddOne f g h rec rest
+  unfolding oddOne
+  odd-first e t = rw (← p, ← q, ← r, e, t)
+
+  pub odd-second : x ≡ false → y ≡ true → g .0 ≡ oddOne f g h rec rest
+  unfolding oddOne
+  odd-second e t = rw (← p, ← q, ← r, e, t)
+
+  pub odd-third : x ≡ false → y ≡ false → z ≡ true → h .0 ≡ oddOne f g h rec rest
+  unfolding oddOne
+  odd-third e k t = rw (← p, ← q, ← r, e, k, t)
+
+  pub odd-filled : x ≡ false → y ≡ false → z ≡ false → rest ≡ oddOne f g h rec rest
+  unfolding oddOne
+  odd-filled e k t = rw (← p, ← q, ← r, e, k, t)
+
+-- ---- the needed field that is blank
+
+-- columns count from 1
+unfoldable pub counted : List Needable → Bool
+counted [] = true
+counted (n ∷ ns) = not (eqb (n .1 .0) 0) && counted ns
+
+pub counted-first : (n : Needable) (ns : List Needable) → counted (n ∷ ns) ≡ true → n .1 .0 ≡ 0 → ⊥
+unfolding counted
+counted-first n ns h = eqb-false (n .1 .0) 0 (is-false (eqb (n .1 .0) 0) (and-left (not (eqb (n .1 .0) 0)) (counted ns) h))
+
+pub counted-rest : (n : Needable) (ns : List Needable) → counted (n ∷ ns) ≡ true → counted ns ≡ true
+unfolding counted
+counted-rest n ns h = and-right (not (eqb (n .1 .0) 0)) (counted ns) h
+
+pub counted-at : (ns : List Needable) (d : Needable) (i : ℕ) → counted ns ≡ true → i < length ns → 1 ≤ getD ns i d .1 .0
+counted-at [] d i h k = absurd (not-suc-le-zero k)
+counted-at (n ∷ ns) d zero h k = let z = counted-first n ns h in omega (arith, z)
+counted-at (n ∷ ns) d (suc i) h k = counted-at ns d i (counted-rest n ns h) (le-of-suc-le-suc k)
+
+-- one turn of the loop: the answer from here is the answer from the start
+module _ (asked : ℕ → Bool) (rec : List ℕ) (ns : List Needable) (i : ℕ) {whole : ℕ} (e : whole ≡ missing asked (drop i ns) rec) where
+  module _ (d : Needable) (h : i < length ns) {a b : Bool} (p : a ≡ asked (getD ns i d .0)) (q : b ≡ blank (bytesIn (getD ns i d .1) rec)) where
+    pub missing-here : (a && b) ≡ true → getD ns i d .1 .0 ≡ whole
+    unfolding missing
+    missing-here t = sym (e ∙ rw (drop-cons ns i d h, ← p, ← q, t))
+
+    pub missing-on : (a && b) ≡ false → whole ≡ missing asked (drop (i + 1) ns) rec
+    unfolding missing
+    missing-on t = e ∙ rw (add-one, drop-cons ns i d h, ← p, ← q, t)
+
+  pub missing-none : length ns ≤ i → 0 ≡ whole
+  unfolding missing
+  missing-none h = sym (e ∙ rw (drop-of-length-le ns h))

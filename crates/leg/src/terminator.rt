@@ -2,10 +2,12 @@
 ghost use mathlib.Core.Path.{_≡_};
 ghost use Prim.Native.Nat.{_<_};
 ghost use lib.Seq.{sets};
-ghost use Rattle.slices.specs.Part.{part, member};
+ghost use Rattle.slices.specs.Part.{member};
 ghost use Rattle.slices.specs.Order.{equal};
 ghost use Rattle.slices.specs.Search.{firstAt};
+ghost use Rattle.columns.specs.Words.{columns};
 ghost use Rattle.leg.specs.Terminator.{pairs, terminatorNumber, nameOf, terminatorAt, terminatorOf, needed, endsAtFix, isHolding};
+use columns::field::Field;
 use slices::copy;
 use slices::has;
 use slices::same;
@@ -50,7 +52,7 @@ const HOLDINGS: [u8; 23] = *b"00000000000111000000000";
 
 // The place of a record's terminator among 23 names of two letters, or 23 where it is none of them.
 fn place_among<'a>(names: &'a [u8], rec: &'a [u8]) -> usize
-    ensures { λ r. ⌜ r ≡ firstAt (equal (part 2 47 (now (rec .entry)))) (pairs (now (names .entry)) 23 0) ⌝ }
+    ensures { λ r. ⌜ r ≡ firstAt (equal (columns 48 49 (now (rec .entry)))) (pairs (now (names .entry)) 23 0) ⌝ }
 {
     let at = Terminator::column() - 1;
     let mut i = 0;
@@ -64,30 +66,30 @@ fn place_among<'a>(names: &'a [u8], rec: &'a [u8]) -> usize
 }
 
 impl Terminator {
-    // The columns in which a record has its terminator, and the fields that a leg may need.
-    pub const COLUMN: usize = 48;
+    // The column in which a record has its terminator, and the columns of the fields that a leg may need.
+    pub const COLUMN: usize = Field::TERMINATOR.0;
 
-    pub const FIX: usize = 30;
+    pub const FIX: Field = Field::FIX;
 
-    pub const TURN: usize = 44;
+    pub const TURN: Field = Field::TURN;
 
-    pub const NAVAID: usize = 51;
+    pub const NAVAID: Field = Field::NAVAID;
 
-    pub const ARC_RADIUS: usize = 57;
+    pub const ARC_RADIUS: Field = Field::ARC_RADIUS;
 
-    pub const THETA: usize = 63;
+    pub const THETA: Field = Field::THETA;
 
-    pub const RHO: usize = 67;
+    pub const RHO: Field = Field::RHO;
 
-    pub const COURSE: usize = 71;
+    pub const COURSE: Field = Field::COURSE;
 
-    pub const DISTANCE: usize = 75;
+    pub const DISTANCE: Field = Field::DISTANCE;
 
-    pub const ALTITUDE: usize = 85;
+    pub const ALTITUDE: Field = Field::ALTITUDE;
 
-    pub const SECOND_ALTITUDE: usize = 90;
+    pub const SECOND_ALTITUDE: Field = Field::SECOND_ALTITUDE;
 
-    pub const CENTRE_FIX: usize = 107;
+    pub const CENTRE_FIX: Field = Field::CENTRE_FIX;
 
     // The column at which a record's terminator begins.
     pub fn column() -> usize
@@ -160,7 +162,7 @@ impl Terminator {
 
     // The terminator in columns 48 and 49 of a record; VR where they hold none, which is refused by 3 before anything asks.
     pub fn of(rec: &[u8]) -> Terminator
-        ensures { λ r. ⌜ r ≡ terminatorOf (part 2 47 (now (rec .entry))) ⌝ }
+        ensures { λ r. ⌜ r ≡ terminatorOf (columns 48 49 (now (rec .entry))) ⌝ }
     {
         Terminator::at(place_among(&NAMES, rec))
     }

@@ -5,6 +5,9 @@ use Rattle.columns.specs.Kinds.{kindOf}
 use Rattle.columns.proofs.kind_of.Statement.{statement}
 use Rattle.columns.proofs.kind_of.Tie as tie
 
+sub-byte-at : tie.Need-sub-byte-at
+sub-byte-at c = search needs
+
 byte-at-requires : tie.Need-byte-at-requires
 byte-at-requires c κs = search needs
 
@@ -20,4 +23,4 @@ unfolding kindOf
 returns-2 c = simp (sym (c .before .before .byte-at .ensures), sym (c .before .in-set .ensures) ∙ c .if1 .left)
 
 pub kind-of-spec : {M : Type 1} → statement M
-kind-of-spec = tie.close (tie.spec byte-at-requires in-set-requires returns returns-2)
+kind-of-spec = tie.close (tie.spec sub-byte-at byte-at-requires in-set-requires returns returns-2)

@@ -4,6 +4,9 @@ use borrow.Author.Needs.{needs}
 use Rattle.fields.proofs.numbers.put_marked.Statement.{statement}
 use Rattle.fields.proofs.numbers.put_marked.Tie as tie
 
+sub-at : tie.Need-sub-at
+sub-at c = search needs
+
 power-requires : tie.Need-power-requires
 power-requires c κs = search needs
 
@@ -47,6 +50,7 @@ pub put-marked-spec : {M : Type 1} → statement M
 put-marked-spec =
     tie.close
     (tie.spec
+    sub-at
     power-requires
     add-from
     copy-requires

@@ -4,6 +4,9 @@ use borrow.Author.Needs.{needs}
 use Rattle.fields.proofs.text.put_byte.Statement.{statement}
 use Rattle.fields.proofs.text.put_byte.Tie as tie
 
+sub-put-after : tie.Need-sub-put-after
+sub-put-after c = search needs
+
 put-after-requires : tie.Need-put-after-requires
 put-after-requires c κs = search needs
 
@@ -14,4 +17,4 @@ returns : tie.Need-returns
 returns c = put-one _ _ _ (c .before .before .put-after .ensures)
 
 pub put-byte-spec : {M : Type 1} → statement M
-put-byte-spec = tie.close (tie.spec put-after-requires same-length returns)
+put-byte-spec = tie.close (tie.spec sub-put-after put-after-requires same-length returns)

@@ -1,89 +1,81 @@
--- Each call is a line of the definition. Assumes nothing.
-use Rattle.leg.specs.Stages.{neededColumn, neededOf}
+-- The invariant: the rows of the table that are left give the answer. Assumes nothing.
 use borrow.Author.Needs.{needs}
+use native.Mathlib.Omega.{arith}
+use mathlib.Core.Path.{_≡_, refl, _∙_}
+use Prim.Native.Nat.{_≤_, _-_}
+use lib.ListN.{drop}
+use Rattle.leg.proofs.StageLaws.{counted, counted-at, missing-here, missing-on, missing-none}
+use Rattle.leg.specs.Stages.{needable, asks, missing, neededOf, neededColumn}
 use Rattle.leg.proofs.stages.needed_column.Statement.{statement}
 use Rattle.leg.proofs.stages.needed_column.Tie as tie
 
-of-requires : tie.Need-of-requires
+abbrev Inv-loop : tie.InvT-loop
+Inv-loop rec t both i₀ i = (i ≤ 11) × (neededColumn rec ≡ missing (asks t both) (drop i needable) rec)
+
+abbrev μ-loop : tie.MeasureT-loop
+μ-loop rec t both i₀ i = 11 - i
+
+of-requires : tie.Need-of-requires Inv-loop μ-loop
 of-requires c κs = search needs
 
-byte-at-requires : tie.Need-byte-at-requires
+sub-byte-at : tie.Need-sub-byte-at Inv-loop μ-loop
+sub-byte-at c = search needs
+
+byte-at-requires : tie.Need-byte-at-requires Inv-loop μ-loop
 byte-at-requires c κs = search needs
 
-asked-at-requires : tie.Need-asked-at-requires
-asked-at-requires c κs = search needs
-
-missing-at-requires : tie.Need-missing-at-requires
-missing-at-requires c κs = search needs
-
-needed-requires : tie.Need-needed-requires
-needed-requires c κs = search needs
-
-missing-at-requires-2 : tie.Need-missing-at-requires-2
-missing-at-requires-2 c κs = search needs
-
-asked-at-requires-2 : tie.Need-asked-at-requires-2
-asked-at-requires-2 c κs = search needs
-
-asked-at-requires-3 : tie.Need-asked-at-requires-3
-asked-at-requires-3 c κs = search needs
-
-asked-at-requires-4 : tie.Need-asked-at-requires-4
-asked-at-requires-4 c κs = search needs
-
-asked-at-requires-5 : tie.Need-asked-at-requires-5
-asked-at-requires-5 c κs = search needs
-
-asked-at-requires-6 : tie.Need-asked-at-requires-6
-asked-at-requires-6 c κs = search needs
-
-asked-at-requires-7 : tie.Need-asked-at-requires-7
-asked-at-requires-7 c κs = search needs
-
-asked-at-requires-8 : tie.Need-asked-at-requires-8
-asked-at-requires-8 c κs = search needs
-
-asked-at-requires-9 : tie.Need-asked-at-requires-9
-asked-at-requires-9 c κs = search needs
-
-returns : tie.Need-returns
+loop-holds : tie.Need-loop-holds Inv-loop μ-loop
 unfolding neededColumn neededOf
+loop-holds c = (search needs, rw (c .before .before .of .ensures, c .byte-at .ensures))
+
+mul-n : tie.Need-mul-n Inv-loop μ-loop
+mul-n c = search needs
+
+array-copy-out-n : tie.Need-array-copy-out-n Inv-loop μ-loop
+array-copy-out-n c = search needs
+
+asked-requires : tie.Need-asked-requires Inv-loop μ-loop
+asked-requires c κs = search needs
+
+is-blank-requires : tie.Need-is-blank-requires Inv-loop μ-loop
+unfolding counted
+is-blank-requires c κs = let turn = c .before .before .before in counted-at needable _ (turn .before .loop .i) refl (turn .loop-test .taken)
+
+returns : tie.Need-returns Inv-loop μ-loop
 returns c =
-    let altitudes = c .before .before .before .before .before .before .before .before in
-    let first = altitudes .before .before .before in
-    simp (
-      c .asked-at9 .ensures,
-      c .before .asked-at8 .ensures,
-      c .before .before .asked-at7 .ensures,
-      c .before .before .before .asked-at6 .ensures,
-      c .before .before .before .before .asked-at5 .ensures,
-      c .before .before .before .before .before .asked-at4 .ensures,
-      c .before .before .before .before .before .before .asked-at3 .ensures,
-      c .before .before .before .before .before .before .before .asked-at2 .ensures,
-      altitudes .missing-at2 .ensures,
-      altitudes .before .needed .ensures,
-      altitudes .before .before .missing-at .ensures,
-      first .asked-at .ensures,
-      first .before .byte-at .ensures,
-      first .before .before .of .ensures,
-    )
+    let turn = c .before .before .before .before .before in
+    missing-here _ _ needable _ (turn .before .loop .inv .1) _ (turn .loop-test .taken) (c .before .before .asked .ensures) (c .before .is-blank .ensures) (c .if1 .taken)
+
+add-i : tie.Need-add-i Inv-loop μ-loop
+add-i c = search needs
+
+loop-less : tie.Need-loop-less Inv-loop μ-loop
+loop-less c = search needs
+
+loop-again : tie.Need-loop-again Inv-loop μ-loop
+loop-again c =
+    let turn = c .before .before .before .before .before in
+    (search needs, missing-on _ _ needable _ (turn .before .loop .inv .1) _ (turn .loop-test .taken) (c .before .before .asked .ensures) (c .before .is-blank .ensures) (c .if1 .left))
+
+returns-2 : tie.Need-returns-2 Inv-loop μ-loop
+returns-2 c = missing-none _ _ needable _ (c .before .loop .inv .1) (c .loop-test .left)
 
 pub needed-column-spec : {M : Type 1} → statement M
 needed-column-spec =
     tie.close
     (tie.spec
+    Inv-loop
+    μ-loop
     of-requires
+    sub-byte-at
     byte-at-requires
-    asked-at-requires
-    missing-at-requires
-    needed-requires
-    missing-at-requires-2
-    asked-at-requires-2
-    asked-at-requires-3
-    asked-at-requires-4
-    asked-at-requires-5
-    asked-at-requires-6
-    asked-at-requires-7
-    asked-at-requires-8
-    asked-at-requires-9
-    returns)
+    loop-holds
+    mul-n
+    array-copy-out-n
+    asked-requires
+    is-blank-requires
+    returns
+    add-i
+    loop-less
+    loop-again
+    returns-2)

@@ -7,8 +7,8 @@ use Rattle.fields.proofs.continuation.Continuation.of.Tie as tie
 of-requires : tie.Need-of-requires
 of-requires c κs = search needs
 
-byte-at-requires : tie.Need-byte-at-requires
-byte-at-requires c κs = search needs
+byte-in-requires : tie.Need-byte-in-requires
+byte-in-requires c κs = search needs
 
 of-requires-2 : tie.Need-of-requires-2
 of-requires-2 c κs = search needs
@@ -18,7 +18,7 @@ of-requires-3 c κs = search needs
 
 returns : tie.Need-returns
 unfolding continuationOf
-returns c = simp (c .of3 .ensures, c .before .of2 .ensures, c .before .before .byte-at .ensures, c .before .before .before .of .ensures)
+returns c = simp (c .of3 .ensures, c .before .of2 .ensures, c .before .before .byte-in .ensures, c .before .before .before .of .ensures)
 
 pub of-spec : {M : Type 1} → statement M
-of-spec = tie.close (tie.spec of-requires byte-at-requires of-requires-2 of-requires-3 returns)
+of-spec = tie.close (tie.spec of-requires byte-in-requires of-requires-2 of-requires-3 returns)

@@ -4,8 +4,8 @@ use borrow.Author.Needs.{needs}
 use Rattle.fields.proofs.head.Route.of.Statement.{statement}
 use Rattle.fields.proofs.head.Route.of.Tie as tie
 
-byte-at-requires : tie.Need-byte-at-requires
-byte-at-requires c κs = search needs
+byte-in-requires : tie.Need-byte-in-requires
+byte-in-requires c κs = search needs
 
 of-requires : tie.Need-of-requires
 of-requires c κs = search needs
@@ -16,14 +16,14 @@ of-requires-2 c κs = search needs
 of-requires-3 : tie.Need-of-requires-3
 of-requires-3 c κs = search needs
 
-byte-at-requires-2 : tie.Need-byte-at-requires-2
-byte-at-requires-2 c κs = search needs
+byte-in-requires-2 : tie.Need-byte-in-requires-2
+byte-in-requires-2 c κs = search needs
 
 of-requires-4 : tie.Need-of-requires-4
 of-requires-4 c κs = search needs
 
-byte-at-requires-3 : tie.Need-byte-at-requires-3
-byte-at-requires-3 c κs = search needs
+byte-in-requires-3 : tie.Need-byte-in-requires-3
+byte-in-requires-3 c κs = search needs
 
 of-requires-5 : tie.Need-of-requires-5
 of-requires-5 c κs = search needs
@@ -40,25 +40,25 @@ returns c =
     let c7 = c6 .before in
     simp (
       c .of5 .ensures,
-      c1 .byte-at3 .ensures,
+      c1 .byte-in3 .ensures,
       c2 .of4 .ensures,
-      c3 .byte-at2 .ensures,
+      c3 .byte-in2 .ensures,
       c4 .of3 .ensures,
       c5 .of2 .ensures,
       c6 .of .ensures,
-      c7 .byte-at .ensures,
+      c7 .byte-in .ensures,
     )
 
 pub of-spec : {M : Type 1} → statement M
 of-spec =
     tie.close
     (tie.spec
-    byte-at-requires
+    byte-in-requires
     of-requires
     of-requires-2
     of-requires-3
-    byte-at-requires-2
+    byte-in-requires-2
     of-requires-4
-    byte-at-requires-3
+    byte-in-requires-3
     of-requires-5
     returns)

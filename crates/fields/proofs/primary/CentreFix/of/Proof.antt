@@ -16,14 +16,14 @@ of-requires-3 c κs = search needs
 of-requires-4 : tie.Need-of-requires-4
 of-requires-4 c κs = search needs
 
-byte-at-requires : tie.Need-byte-at-requires
-byte-at-requires c κs = search needs
+byte-in-requires : tie.Need-byte-in-requires
+byte-in-requires c κs = search needs
 
 returns : tie.Need-returns
 unfolding centreFixOf
-returns c = simp (c .byte-at .ensures, c .before .of4 .ensures, c .before .before .of3 .ensures, c .before .before .before .of2 .ensures, c .before .before .before .before .of .ensures)
+returns c = simp (c .byte-in .ensures, c .before .of4 .ensures, c .before .before .of3 .ensures, c .before .before .before .of2 .ensures, c .before .before .before .before .of .ensures)
 
 pub of-spec : {M : Type 1} → statement M
 of-spec =
     tie.close
-    (tie.spec of-requires of-requires-2 of-requires-3 of-requires-4 byte-at-requires returns)
+    (tie.spec of-requires of-requires-2 of-requires-3 of-requires-4 byte-in-requires returns)

@@ -10,8 +10,8 @@ of-requires c κs = search needs
 of-requires-2 : tie.Need-of-requires-2
 of-requires-2 c κs = search needs
 
-byte-at-requires : tie.Need-byte-at-requires
-byte-at-requires c κs = search needs
+byte-in-requires : tie.Need-byte-in-requires
+byte-in-requires c κs = search needs
 
 of-requires-3 : tie.Need-of-requires-3
 of-requires-3 c κs = search needs
@@ -43,8 +43,8 @@ of-requires-11 c κs = search needs
 of-requires-12 : tie.Need-of-requires-12
 of-requires-12 c κs = search needs
 
-byte-at-requires-2 : tie.Need-byte-at-requires-2
-byte-at-requires-2 c κs = search needs
+byte-in-requires-2 : tie.Need-byte-in-requires-2
+byte-in-requires-2 c κs = search needs
 
 of-requires-13 : tie.Need-of-requires-13
 of-requires-13 c κs = search needs
@@ -118,7 +118,7 @@ returns c =
       c8 .of15 .ensures,
       c9 .of14 .ensures,
       c10 .of13 .ensures,
-      c11 .byte-at2 .ensures,
+      c11 .byte-in2 .ensures,
       c12 .of12 .ensures,
       c13 .of11 .ensures,
       c14 .of10 .ensures,
@@ -129,7 +129,7 @@ returns c =
       c19 .of5 .ensures,
       c20 .of4 .ensures,
       c21 .of3 .ensures,
-      c22 .byte-at .ensures,
+      c22 .byte-in .ensures,
       c23 .of2 .ensures,
       c24 .of .ensures,
     )
@@ -140,7 +140,7 @@ of-spec =
     (tie.spec
     of-requires
     of-requires-2
-    byte-at-requires
+    byte-in-requires
     of-requires-3
     of-requires-4
     of-requires-5
@@ -151,7 +151,7 @@ of-spec =
     of-requires-10
     of-requires-11
     of-requires-12
-    byte-at-requires-2
+    byte-in-requires-2
     of-requires-13
     of-requires-14
     of-requires-15

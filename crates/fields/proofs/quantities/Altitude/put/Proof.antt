@@ -1,7 +1,7 @@
 -- What is put is the bytes of the part. Assumes nothing.
 use mathlib.Core.Path.{refl}
 use Rattle.fields.specs.Quantities.{altitudeBytes}
-use Rattle.fields.proofs.PutLaws.{skip}
+use Rattle.fields.proofs.PutLaws.{skip, as-wide}
 use borrow.Author.Needs.{needs}
 use Rattle.fields.proofs.quantities.Altitude.put.Statement.{statement}
 use Rattle.fields.proofs.quantities.Altitude.put.Tie as tie
@@ -48,7 +48,10 @@ same-length c = search needs
 
 returns-2 : tie.Need-returns-2
 unfolding altitudeBytes
-returns-2 c = rw (c .before .before .before .before .before .self .given .1) (c .before .before .put-number .ensures)
+returns-2 c =
+    let c2 = c .before .before in
+    let c5 = c2 .before .before .before in
+    rw (c5 .self .given .1) (as-wide _ _ _ (c5 .before .before .before .pre .2) (c2 .put-number .ensures))
 
 same-length-2 : tie.Need-same-length-2
 same-length-2 c = search needs

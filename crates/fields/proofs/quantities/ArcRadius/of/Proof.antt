@@ -5,19 +5,19 @@ use borrow.Author.Needs.{needs}
 use Rattle.fields.proofs.quantities.ArcRadius.of.Statement.{statement}
 use Rattle.fields.proofs.quantities.ArcRadius.of.Tie as tie
 
-is-blank-requires : tie.Need-is-blank-requires
-is-blank-requires c κs = search needs
+blank-in-requires : tie.Need-blank-in-requires
+blank-in-requires c κs = search needs
 
-number-requires : tie.Need-number-requires
-number-requires c κs = search needs
+number-in-requires : tie.Need-number-in-requires
+number-in-requires c κs = search needs
 
 returns : tie.Need-returns
 unfolding arcRadiusOf
-returns c = simp (sym (c .before .is-blank .ensures) ∙ c .if1 .taken)
+returns c = simp (sym (c .before .blank-in .ensures) ∙ c .if1 .taken)
 
 returns-2 : tie.Need-returns-2
 unfolding arcRadiusOf
-returns-2 c = simp (c .number .ensures, sym (c .before .before .is-blank .ensures) ∙ c .before .if1 .left)
+returns-2 c = simp (c .number-in .ensures, sym (c .before .before .blank-in .ensures) ∙ c .before .if1 .left)
 
 pub of-spec : {M : Type 1} → statement M
-of-spec = tie.close (tie.spec is-blank-requires number-requires returns returns-2)
+of-spec = tie.close (tie.spec blank-in-requires number-in-requires returns returns-2)

@@ -6,36 +6,36 @@ use borrow.Author.Needs.{needs}
 use Rattle.fields.proofs.quantities.Course.of.Statement.{statement}
 use Rattle.fields.proofs.quantities.Course.of.Tie as tie
 
-is-blank-requires : tie.Need-is-blank-requires
-is-blank-requires c κs = search needs
+blank-in-requires : tie.Need-blank-in-requires
+blank-in-requires c κs = search needs
 
 returns : tie.Need-returns
 unfolding courseOf
-returns c = simp (sym (c .before .is-blank .ensures) ∙ c .if1 .taken)
+returns c = simp (sym (c .before .blank-in .ensures) ∙ c .if1 .taken)
 
-byte-at-requires : tie.Need-byte-at-requires
-byte-at-requires c κs = search needs
+byte-within-requires : tie.Need-byte-within-requires
+byte-within-requires c κs = search needs
 
-number-requires : tie.Need-number-requires
-number-requires c κs = search needs
+number-within-requires : tie.Need-number-within-requires
+number-within-requires c κs = search needs
 
 returns-2 : tie.Need-returns-2
-returns-2 c = course-true _ (sym (c .before .before .before .before .is-blank .ensures) ∙ c .before .before .before .if1 .left) (c .before .before .byte-at .ensures) (c .before .if2 .taken) (c .number .ensures)
+returns-2 c = course-true _ (sym (c .before .before .before .before .blank-in .ensures) ∙ c .before .before .before .if1 .left) (c .before .before .byte-within .ensures) (c .before .if2 .taken) (c .number-within .ensures)
 
-number-requires-2 : tie.Need-number-requires-2
-number-requires-2 c κs = search needs
+number-in-requires : tie.Need-number-in-requires
+number-in-requires c κs = search needs
 
 returns-3 : tie.Need-returns-3
-returns-3 c = course-magnetic _ (sym (c .before .before .before .before .is-blank .ensures) ∙ c .before .before .before .if1 .left) (c .before .before .byte-at .ensures) (c .before .if2 .left) (c .number2 .ensures)
+returns-3 c = course-magnetic _ (sym (c .before .before .before .before .blank-in .ensures) ∙ c .before .before .before .if1 .left) (c .before .before .byte-within .ensures) (c .before .if2 .left) (c .number-in .ensures)
 
 pub of-spec : {M : Type 1} → statement M
 of-spec =
     tie.close
     (tie.spec
-    is-blank-requires
+    blank-in-requires
     returns
-    byte-at-requires
-    number-requires
+    byte-within-requires
+    number-within-requires
     returns-2
-    number-requires-2
+    number-in-requires
     returns-3)

@@ -4,14 +4,14 @@ use borrow.Author.Needs.{needs}
 use Rattle.fields.proofs.text.Letter.of.Statement.{statement}
 use Rattle.fields.proofs.text.Letter.of.Tie as tie
 
-byte-at-requires : tie.Need-byte-at-requires
-byte-at-requires c κs = search needs
+byte-in-requires : tie.Need-byte-in-requires
+byte-in-requires c κs = search needs
 
 returns : tie.Need-returns
-returns c = letter-absent _ _ (c .before .byte-at .ensures) (c .if1 .taken)
+returns c = letter-absent _ _ (c .before .byte-in .ensures) (c .if1 .taken)
 
 returns-2 : tie.Need-returns-2
-returns-2 c = letter-is _ _ (c .before .byte-at .ensures) (c .if1 .left)
+returns-2 c = letter-is _ _ (c .before .byte-in .ensures) (c .if1 .left)
 
 pub of-spec : {M : Type 1} → statement M
-of-spec = tie.close (tie.spec byte-at-requires returns returns-2)
+of-spec = tie.close (tie.spec byte-in-requires returns returns-2)

@@ -17,6 +17,9 @@ is-blank-requires c κs = search needs
 slice-aggregate-copy : tie.Need-slice-aggregate-copy
 slice-aggregate-copy c = search needs
 
+sub-copy : tie.Need-sub-copy
+sub-copy c = search needs
+
 copy-requires : tie.Need-copy-requires
 copy-requires c κs = search needs
 
@@ -30,9 +33,9 @@ returns : tie.Need-returns
 unfolding bytesOf
 returns c =
     let c2 = c .before .before in
-    let c5 = c2 .before .before .before in
-    let c6 = c5 .before in
-    text-fits _ _ _ _ (c6 .is-blank .ensures) (c5 .if1 .taken) (c2 .copy .ensures)
+    let c6 = c2 .before .before .before .before in
+    let c7 = c6 .before in
+    text-fits _ _ _ _ (c7 .is-blank .ensures) (c6 .if1 .taken) (c2 .copy .ensures)
 
 same-length-2 : tie.Need-same-length-2
 same-length-2 c = search needs
@@ -49,6 +52,7 @@ put-spec =
     sub-is-blank
     is-blank-requires
     slice-aggregate-copy
+    sub-copy
     copy-requires
     put-byte-requires
     same-length

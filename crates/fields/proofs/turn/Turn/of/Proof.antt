@@ -4,23 +4,20 @@ use borrow.Author.Needs.{needs}
 use Rattle.fields.proofs.turn.Turn.of.Statement.{statement}
 use Rattle.fields.proofs.turn.Turn.of.Tie as tie
 
-sub-byte-at : tie.Need-sub-byte-at
-sub-byte-at c = search needs
-
-byte-at-requires : tie.Need-byte-at-requires
-byte-at-requires c κs = search needs
+byte-in-requires : tie.Need-byte-in-requires
+byte-in-requires c κs = search needs
 
 returns : tie.Need-returns
-returns c = turn-left _ (c .before .byte-at .ensures) (c .if1 .taken)
+returns c = turn-left _ (c .before .byte-in .ensures) (c .if1 .taken)
 
 returns-2 : tie.Need-returns-2
-returns-2 c = turn-right _ (c .before .before .byte-at .ensures) (c .if2 .taken)
+returns-2 c = turn-right _ (c .before .before .byte-in .ensures) (c .if2 .taken)
 
 returns-3 : tie.Need-returns-3
-returns-3 c = turn-either _ (c .before .before .before .byte-at .ensures) (c .if3 .taken)
+returns-3 c = turn-either _ (c .before .before .before .byte-in .ensures) (c .if3 .taken)
 
 returns-4 : tie.Need-returns-4
-returns-4 c = turn-absent _ (c .before .before .before .byte-at .ensures) (c .before .before .if1 .left) (c .before .if2 .left) (c .if3 .left)
+returns-4 c = turn-absent _ (c .before .before .before .byte-in .ensures) (c .before .before .if1 .left) (c .before .if2 .left) (c .if3 .left)
 
 pub of-spec : {M : Type 1} → statement M
-of-spec = tie.close (tie.spec sub-byte-at byte-at-requires returns returns-2 returns-3 returns-4)
+of-spec = tie.close (tie.spec byte-in-requires returns returns-2 returns-3 returns-4)

@@ -12,26 +12,17 @@ enum-told c = search needs
 enum-told-2 : tie.Need-enum-told-2
 enum-told-2 c = search needs
 
-sub-put-byte : tie.Need-sub-put-byte
-sub-put-byte c = search needs
-
 put-byte-requires : tie.Need-put-byte-requires
 put-byte-requires c κs = search needs
 
 enum-told-3 : tie.Need-enum-told-3
 enum-told-3 c = search needs
 
-sub-put-byte-2 : tie.Need-sub-put-byte-2
-sub-put-byte-2 c = search needs
-
 put-byte-requires-2 : tie.Need-put-byte-requires-2
 put-byte-requires-2 c κs = search needs
 
 enum-told-4 : tie.Need-enum-told-4
 enum-told-4 c = search needs
-
-sub-put-byte-3 : tie.Need-sub-put-byte-3
-sub-put-byte-3 c = search needs
 
 put-byte-requires-3 : tie.Need-put-byte-requires-3
 put-byte-requires-3 c κs = search needs
@@ -67,13 +58,10 @@ put-spec =
     (tie.spec
     enum-told
     enum-told-2
-    sub-put-byte
     put-byte-requires
     enum-told-3
-    sub-put-byte-2
     put-byte-requires-2
     enum-told-4
-    sub-put-byte-3
     put-byte-requires-3
     returns
     same-length
