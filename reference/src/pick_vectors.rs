@@ -93,8 +93,10 @@ pub(crate) fn answer(number: usize, case: &Case) -> String {
     let records: &[&[u8]] = accepted.map_or(&[], |picked| &picked.records);
     let line = |n: usize| n.checked_sub(1).and_then(|at| records.get(at)).copied().unwrap_or_default();
     let (half, last) = (records.len().div_ceil(2), records.len());
-    // The lines that are asked of an answer, and those that are picked for each.
-    let lines = [0, 1, half, last, last + 1, usize::MAX, half, last + 1].map(line);
+    // The lines that are asked of an answer; one of the same answer made a refusal, which has none; and those
+    // that are picked for each.
+    let asked = [0, 1, half, last, last + 1, usize::MAX].map(line);
+    let lines = [&asked[..], &[&[]], &[half, last + 1].map(line)].concat();
     format!(
         "case\t{number}\t{}\npick\t{}{counts}\nfile\t{}\nsums{}\nlines{}\n",
         verdict(&checked),

@@ -14,15 +14,17 @@ use Rattle.slices.proofs.Cases.{split}
 use Rattle.slices.proofs.PartLaws.{getD-any}
 use Rattle.slices.specs.Part.{padded}
 use Rattle.refusals.specs.declared.Refusal.{Refusal}
-use Rattle.refusals.specs.declared.Verdict.the-variants.{Accepted}
+use Rattle.refusals.specs.declared.Verdict.the-variants.{Accepted, Refused}
 use Rattle.routes.specs.Files.{fileVerdict}
 use Rattle.routes.specs.Legal.{lines, Wide}
 use Rattle.routes.specs.Places.{Every}
 use Rattle.routes.specs.Sources.{firstOfLog, recordWithin, recordAt, sourcesFor}
 use Rattle.routes.proofs.Lines.{length-lines}
-use Rattle.selection.specs.Pick.{Pick, refusedBy, picked, pickOf, newRecords, newBytes, lineIn, filePick, pickedAs}
+use Rattle.selection.specs.Pick.{Pick, refusedBy, picked, pickOf, newRecords, newBytes, lineIn, lineOfPick, filePick, pickedAs}
 use Rattle.selection.specs.Demand.{LiesAt}
+use Rattle.selection.specs.declared.Picked.{Picked}
 use Rattle.selection.proofs.Demand.{picked-demand}
+use Rattle.selection.proofs.MemberLaws.{line-refused}
 use Rattle.selection.proofs.StoredLaws.{in-use-all}
 
 -- ---- the counts
@@ -36,15 +38,20 @@ counts-are ns xs = (refl, refl)
 
 module _ (f l : List ℕ) where
   -- Line n of a pick, counted from 1, is record n of the new file; past the last there is none.
-  pub line-is-record : (p : Pick) (n : ℕ) → lineIn f l (pickedAs p .records) (suc n) ≡ getD (newRecords f l p) n []
-  unfolding lineIn pickedAs newRecords
-  line-is-record (refusedBy r) n = ap (λ (xs : List ℕ). getD (map (recordAt f l) xs) n []) (in-use-all [])
+  pub line-is-record : (p : Pick) (n : ℕ) → lineOfPick f l (pickedAs p) (suc n) ≡ getD (newRecords f l p) n []
+  unfolding lineOfPick lineIn pickedAs newRecords
+  line-is-record (refusedBy r) n = refl
   line-is-record (picked ns xs) n = ap (λ (ys : List ℕ). getD (map (recordAt f l) ys) n []) (in-use-all xs)
 
   -- There is no line 0.
-  pub no-line-zero : (p : Pick) → lineIn f l (pickedAs p .records) 0 ≡ []
-  unfolding lineIn
-  no-line-zero p = refl
+  pub no-line-zero : (p : Pick) → lineOfPick f l (pickedAs p) 0 ≡ []
+  unfolding lineOfPick lineIn pickedAs
+  no-line-zero (refusedBy r) = refl
+  no-line-zero (picked ns xs) = refl
+
+  -- A refused pick has no line, whoever made it.
+  pub no-line-refused : (p : Picked) (r : Refusal) (n : ℕ) → p .verdict ≡ Refused r → lineOfPick f l p n ≡ []
+  no-line-refused p r n e = sym (line-refused f l n p e)
 
   -- 132 bytes that were found within a slice are that range of it
   within-range : (s : List ℕ) (at : ℕ) → length (recordWithin s at) ≡ 132 → (at + 132 ≤ length s) × (recordWithin s at ≡ take 132 (drop at s))
@@ -76,7 +83,7 @@ module _ (f l : List ℕ) where
 
   -- Each line of a pick that stands is the stated range of the stated slice.
   pub line-is-range : (ws ns xs : List ℕ) → pickOf f l ws ≡ picked ns xs → (n : ℕ) → n < length xs
-      → LiesAt f l (getD xs n 0) (lineIn f l (pickedAs (picked ns xs) .records) (suc n))
+      → LiesAt f l (getD xs n 0) (lineOfPick f l (pickedAs (picked ns xs)) (suc n))
   unfolding newRecords
   line-is-range ws ns xs e n h =
       let d = picked-demand f l ws ns xs e in

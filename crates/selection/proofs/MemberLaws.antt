@@ -10,10 +10,12 @@ use lib.Seq.{getD-take}
 use Rattle.slices.proofs.Cases.{split}
 use Rattle.slices.proofs.PartLaws.{one-less, getD-any}
 use Rattle.slices.proofs.WriteLaws.{sets-append, stored-front}
+use Rattle.refusals.specs.declared.Refusal.{Refusal}
+use Rattle.refusals.specs.declared.Verdict.the-variants.{Accepted, Refused}
 use Rattle.history.specs.Sets.{Numbers}
 use Rattle.routes.specs.Sources.{recordAt, inUse}
 use Rattle.routes.specs.declared.Sources.{Sources}
-use Rattle.selection.specs.Pick.{membersFrom, grown, listed, lineIn}
+use Rattle.selection.specs.Pick.{membersFrom, grown, listed, lineIn, lineOfPick}
 use Rattle.selection.specs.declared.Picked.{Picked}
 use Rattle.selection.specs.declared.carry.Members.{Members}
 
@@ -108,6 +110,15 @@ module _ (f l : List ℕ) (s : Sources) where
       let m : suc n - 1 ≡ n = omega arith in
       q ∙ ap (λ (i : ℕ). recordAt f l (getD (s .at) i 0)) m ∙ line-there n (omega arith) (omega arith)
 
--- a line of the same pick
-pub line-of-pick : (f l : List ℕ) (n : ℕ) {p q : Picked} {r : List ℕ} → r ≡ lineIn f l (p .records) n → p ≡ q → r ≡ lineIn f l (q .records) n
-line-of-pick f l n e h = e ∙ ap (λ (x : Picked). lineIn f l (x .records) n) h
+module _ (f l : List ℕ) (n : ℕ) where
+  pub line-accepted : (p : Picked) {r : List ℕ} → p .verdict ≡ Accepted → r ≡ lineIn f l (p .records) n → r ≡ lineOfPick f l p n
+  unfolding lineOfPick
+  line-accepted p a e = rw a e
+
+  pub line-refused : (p : Picked) {x : Refusal} → p .verdict ≡ Refused x → [] ≡ lineOfPick f l p n
+  unfolding lineOfPick
+  line-refused p a = rw a
+
+  -- a line of the same pick
+  pub line-of-pick : {p q : Picked} {r : List ℕ} → r ≡ lineOfPick f l p n → p ≡ q → r ≡ lineOfPick f l q n
+  line-of-pick e h = e ∙ ap (λ (x : Picked). lineOfPick f l x n) h

@@ -93,6 +93,10 @@ abbrev pub outcomeVerdict : Outcome → Verdict
 outcomeVerdict (stopped r) = Refused r
 outcomeVerdict (reached xs) = Accepted
 
+abbrev pub unlessRefused : Verdict → List ℕ → List ℕ
+unlessRefused Accepted bytes = bytes
+unlessRefused (Refused r) bytes = []
+
 module _ (frozen log : List ℕ) where
   -- the corrections of a set over the frozen records, where the log has n corrections, and the lines es
   unfoldable pub carried : Numbers → (n : ℕ) → List Entry → Outcome
@@ -135,6 +139,10 @@ module _ (frozen log : List ℕ) where
   unfoldable pub lineIn : Sources → ℕ → List ℕ
   lineIn s zero = []
   lineIn s (suc n) = getD (map (recordAt frozen log) (inUse s)) n []
+
+  -- whoever made the pick
+  unfoldable pub lineOfPick : Picked → ℕ → List ℕ
+  lineOfPick p n = unlessRefused (p .verdict) (lineIn (p .records) n)
 
   -- the pick where so many bytes are lent for the file: 14 first
   unfoldable pub filePick : (lent : ℕ) → (wanted : List ℕ) → Pick

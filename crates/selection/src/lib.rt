@@ -12,7 +12,7 @@ mod relied;
 ghost use mathlib.Core.Path.{_≡_};
 ghost use lib.ListN.{length};
 ghost use Rattle.slices.specs.Part.{padded};
-ghost use Rattle.selection.specs.Pick.{logVerdict, pickOf, filePick, newBytes, lineIn, pickedAs};
+ghost use Rattle.selection.specs.Pick.{logVerdict, pickOf, filePick, newBytes, lineIn, lineOfPick, pickedAs};
 use carry::pick_from;
 use carry::refused_pick;
 use carry::whole;
@@ -75,12 +75,10 @@ pub fn new_file<'a>(frozen: &'a [u8], log: &'a [u8], wanted: &[u32], out: &mut [
     picked
 }
 
-// The record of line n of a pick's new file, as a part of the frozen file or of the log. Empty for line 0 and for a line past the end; a
-// refused pick has no line. It takes the pick at its word: a source that lies in neither slice gives an empty part.
-pub fn line_of<'a>(frozen: &'a [u8], log: &'a [u8], picked: Picked, n: usize) -> &'a [u8]
-    ensures { λ r. ⌜ now r ≡ lineIn (now (frozen .entry)) (now (log .entry)) (picked .records) n ⌝ }
+// The record at the nth of these sources, counted from 1. Empty for 0 and past the count, and where the source lies in neither slice.
+fn line_in<'a>(frozen: &'a [u8], log: &'a [u8], records: Sources, n: usize) -> &'a [u8]
+    ensures { λ r. ⌜ now r ≡ lineIn (now (frozen .entry)) (now (log .entry)) records n ⌝ }
 {
-    let records = picked.records;
     let count = records.count;
     if n == 0 {
         return &frozen[0..0];
@@ -96,10 +94,23 @@ pub fn line_of<'a>(frozen: &'a [u8], log: &'a [u8], picked: Picked, n: usize) ->
     record_at(frozen, log, source)
 }
 
+// The record of line n of a pick's new file, as a part of the frozen file or of the log. Empty for line 0, for a line past the end, and where
+// the pick is refused, whoever made it. It takes the sources at their word: one that lies in neither slice gives an empty part.
+pub fn line_of<'a>(frozen: &'a [u8], log: &'a [u8], picked: Picked, n: usize) -> &'a [u8]
+    ensures { λ r. ⌜ now r ≡ lineOfPick (now (frozen .entry)) (now (log .entry)) picked n ⌝ }
+{
+    let verdict = picked.verdict;
+    let records = picked.records;
+    match verdict {
+        Verdict::Accepted => line_in(frozen, log, records, n),
+        Verdict::Refused(_) => &frozen[0..0],
+    }
+}
+
 // The record of line n of the new file, as a part of the frozen file or of the log. Empty for line 0, for a line past the end, and where the
 // pick is refused.
 pub fn line<'a>(frozen: &'a [u8], log: &'a [u8], wanted: &[u32], n: usize) -> &'a [u8]
-    ensures { λ r. ⌜ now r ≡ lineIn (now (frozen .entry)) (now (log .entry)) (pickedAs (pickOf (now (frozen .entry)) (now (log .entry)) (now (wanted .entry))) .records) n ⌝ }
+    ensures { λ r. ⌜ now r ≡ lineOfPick (now (frozen .entry)) (now (log .entry)) (pickedAs (pickOf (now (frozen .entry)) (now (log .entry)) (now (wanted .entry)))) n ⌝ }
 {
     let picked = pick(frozen, log, wanted);
     line_of(frozen, log, picked, n)

@@ -5,7 +5,8 @@
 //   file, what making the new file says
 //   sums, the check sums of the answer to picking, of the answer to making the file, and of the lent buffer, which was full of 255
 //   lines, the length and the check sum of line 0, line 1, the middle line, the last line, the one behind it and the last number there
-//         is, all of one answer; and of the middle line and the one behind the last, each picked anew
+//         is, all of one answer; of line 1 of the same answer with its verdict made a refusal; and of the middle line and the one behind
+//         the last, each picked anew
 // A verdict is `yes`, or `no` with the refusal's number, place and column. cases.bin has the cases as instructions of three bytes, which
 // make them out of the records in records.bin:
 //   0, 0, 0    the case is whole, and the next one begins, with nothing wanted and a buffer of 63,840 bytes
@@ -27,6 +28,7 @@ ghost use Prim.Native.Nat.{_≤_, _<_};
 ghost use mathlib.Core.Path.{_≡_};
 ghost use lib.ListN.{length};
 use libc::STDOUT_FILENO;
+use refusals::Refusal;
 use refusals::Verdict;
 use selection::Picked;
 
@@ -157,6 +159,18 @@ fn behind(count: usize) -> usize {
     if count < 480 { count + 1 } else { 481 }
 }
 
+// The same pick, but refused.
+fn refused(picked: Picked) -> Picked {
+    let taken = picked.taken;
+    let records = picked.records;
+    Picked {
+        verdict: Verdict::Refused(Refusal::buffer_too_short()),
+        count: picked.count,
+        taken,
+        records,
+    }
+}
+
 fn print_lines<'a>(frozen: &'a [u8], log: &'a [u8], wanted: &[u32], picked: Picked) {
     let records = picked.records;
     let last = records.count;
@@ -167,6 +181,7 @@ fn print_lines<'a>(frozen: &'a [u8], log: &'a [u8], wanted: &[u32], picked: Pick
     print_line(selection::line_of(frozen, log, picked, last));
     print_line(selection::line_of(frozen, log, picked, behind(last)));
     print_line(selection::line_of(frozen, log, picked, usize::MAX));
+    print_line(selection::line_of(frozen, log, refused(picked), 1));
     print_line(selection::line(frozen, log, wanted, middle));
     print_line(selection::line(frozen, log, wanted, behind(last)));
 }

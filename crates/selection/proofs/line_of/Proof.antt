@@ -1,8 +1,17 @@
--- One law for each way to return. Assumes nothing.
-use Rattle.selection.proofs.MemberLaws.{line-zero, line-past, line-far, line-is}
+-- A line of its sources, or none. Assumes nothing.
+use Rattle.selection.proofs.MemberLaws.{line-accepted, line-refused}
 use borrow.Author.Needs.{needs}
 use Rattle.selection.proofs.line_of.Statement.{statement}
 use Rattle.selection.proofs.line_of.Tie as tie
+
+enum-told : tie.Need-enum-told
+enum-told c = search needs
+
+line-in-requires : tie.Need-line-in-requires
+line-in-requires c κs = search needs
+
+enum-told-2 : tie.Need-enum-told-2
+enum-told-2 c = search needs
 
 sub-result : tie.Need-sub-result
 sub-result c = search needs
@@ -14,67 +23,20 @@ part-result-end : tie.Need-part-result-end
 part-result-end c = search needs
 
 returns : tie.Need-returns
-returns c = line-zero _ _ _ _ (c .before .if1 .taken)
-
-sub-result-2 : tie.Need-sub-result-2
-sub-result-2 c = search needs
-
-part-result-start-2 : tie.Need-part-result-start-2
-part-result-start-2 c = search needs
-
-part-result-end-2 : tie.Need-part-result-end-2
-part-result-end-2 c = search needs
+returns c = line-accepted _ _ _ _ (c .before .enum-told .given .1) (c .line-in .ensures)
 
 returns-2 : tie.Need-returns-2
-returns-2 c = line-past _ _ _ _ (c .before .if2 .taken)
-
-sub-result-3 : tie.Need-sub-result-3
-sub-result-3 c = search needs
-
-part-result-start-3 : tie.Need-part-result-start-3
-part-result-start-3 c = search needs
-
-part-result-end-3 : tie.Need-part-result-end-3
-part-result-end-3 c = search needs
-
-returns-3 : tie.Need-returns-3
-returns-3 c = line-far _ _ _ _ (search needs) (c .before .if3 .taken)
-
-sub-i : tie.Need-sub-i
-sub-i c = search needs
-
-mul-source : tie.Need-mul-source
-mul-source c = search needs
-
-element-copy-out-source : tie.Need-element-copy-out-source
-element-copy-out-source c = search needs
-
-record-at-requires : tie.Need-record-at-requires
-record-at-requires c κs = search needs
-
-returns-4 : tie.Need-returns-4
-returns-4 c =
-    let far = c .before .before in
-    line-is _ _ _ _ (far .before .before .if1 .left) (far .before .if2 .left) (far .if3 .left) (search needs) (c .record-at .ensures)
+returns-2 c = line-refused _ _ _ _ (c .before .enum-told2 .given .1)
 
 pub line-of-spec : {M : Type 1} → statement M
 line-of-spec =
     tie.close
     (tie.spec
+    enum-told
+    line-in-requires
+    enum-told-2
     sub-result
     part-result-start
     part-result-end
     returns
-    sub-result-2
-    part-result-start-2
-    part-result-end-2
-    returns-2
-    sub-result-3
-    part-result-start-3
-    part-result-end-3
-    returns-3
-    sub-i
-    mul-source
-    element-copy-out-source
-    record-at-requires
-    returns-4)
+    returns-2)
