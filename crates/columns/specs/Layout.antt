@@ -39,7 +39,8 @@ front =
     row 11 2 icao ∷  -- its ICAO code
     row 13 1 (each "DEF") ∷  -- subsection: departure, arrival, approach
     row 14 6 (all 1 "t" then all 5 "s") ∷  -- procedure
-    guarded 20 1 (when 13 "D" (each "0123456FMSTV") ++ when 13 "E" (each "123456789FMS") ++ when 13 "F" (each "ABEFGIJKLMNPRTUVWXYZ")) ∷  -- route type, by subsection
+    guarded 20 1  -- route type, by subsection
+    (when 13 "D" (each "0123456FMSTV") ++ when 13 "E" (each "123456789FMS") ++ when 13 "F" (each "ABEFGIJKLMNPRTUVWXYZ")) ∷
     row 21 5 (orBlank 5 (text 5)) ∷  -- transition
     row 26 1 (blanks 1) ∷
     row 27 3 (notAllZero 3) ∷  -- sequence number

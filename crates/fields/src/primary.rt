@@ -2,7 +2,8 @@
 // Assumes nothing of the caller.
 ghost use mathlib.Core.Path.{_≡_};
 ghost use Rattle.fields.specs.Pieces.{putAll};
-ghost use Rattle.fields.specs.Leg.{descriptionOf, navaidOf, centreFixOf, legOf, pathPieces, coursePieces, heightPieces, centrePieces, renderLeg};
+ghost use Rattle.fields.specs.Leg.{descriptionOf, navaidOf, centreFixOf, legOf};
+ghost use Rattle.fields.specs.Leg.{pathPieces, coursePieces, heightPieces, centrePieces, renderLeg};
 use crate::head::Head;
 use crate::head::Tail;
 use crate::head::is_continuation_number;

@@ -2,7 +2,7 @@
 -- Assumes nothing.
 use mathlib.Core.Path.{_≡_, refl, sym, ap, subst, _∙_}
 use mathlib.Core.Logic.{_↔_, inl, inr, ⊎-elim, Iff·trans, Iff·and, Iff·rfl}
-use mathlib.Core.Bool.{Bool, true, false, cond, _&&_, false≢true}
+use mathlib.Core.Bool.{Bool, true, false, cond, _&&_, _||_, false≢true}
 use mathlib.Core.List.{List, [], _∷_, map, List·Memᴰ, List·Memᴰ·cases-cons, List·Memᴰ·not-nil}
 use Prim.Native.Nat.{ℕ, _≤_}
 use Prim.Native.Char.{Char, code}
@@ -56,12 +56,16 @@ stage-iff c f next = (to, λ h. rw (h .0) (h .1))
 none-left : (_≡_ {A = ℕ} 0 0) ↔ Unit {0}
 none-left = (λ _. tt, λ _. refl)
 
+also : {P Q : Type 0} → P → Q → P × Q
+also p q = (p, q)
+
 -- ---- companions
 
 abbrev odd : (x y z : Bool) (a b c rest : ℕ) → ℕ
 odd x y z a b c rest = cond (x && (y && z)) rest (cond x a (cond y b (cond z c rest)))
 
-together-iff : (f g h : List ℕ) (a b c rest : ℕ) → 1 ≤ a → 1 ≤ b → 1 ≤ c → (odd (blank f) (blank g) (blank h) a b c rest ≡ 0) ↔ (Companions f g h × (rest ≡ 0))
+together-iff : (f g h : List ℕ) (a b c rest : ℕ) → 1 ≤ a → 1 ≤ b → 1 ≤ c
+    → (odd (blank f) (blank g) (blank h) a b c rest ≡ 0) ↔ (Companions f g h × (rest ≡ 0))
 together-iff f g h a b c rest ha hb hc = (to (blank f) (blank g) (blank h) refl refl refl, from)
   where
     to : (x y z : Bool) → blank f ≡ x → blank g ≡ y → blank h ≡ z → odd x y z a b c rest ≡ 0 → Companions f g h × (rest ≡ 0)
@@ -130,6 +134,14 @@ module _ (rec : List ℕ) where
       none-left))
 
   module _ (t : Terminator) (b : Bool) (B : Type 0) (hb : (b ≡ true) ↔ B) where
+    -- a letter by which the terminator needs a field
+    by : (c : Char) {F : Type 0} → (Needs t c → F) → member (code c) (needed t) ≡ true → F
+    by c f e = f (asks-iff t c .0 e)
+
+    -- .. or both altitudes are needed
+    or-both : (c : Char) {F : Type 0} → (B → F) → (member (code c) (needed t) ≡ true → F) → (b || member (code c) (needed t)) ≡ true → F
+    or-both c f g e = ⊎-elim (λ h. f (hb .0 h)) g (either b (member (code c) (needed t)) e)
+
     needed-iff : (neededOf t b rec ≡ 0) ↔ (NeededFields t rec × (B → Filled (columns 85 89 rec) × Filled (columns 90 94 rec)))
     unfolding neededOf counted
     needed-iff =
@@ -149,37 +161,19 @@ module _ (rec : List ℕ) where
             },
             λ w. (altitude (or-left b (member (code "A") (needed t)) (hb .1 w)), second (or-left b (member (code " ") (needed t)) (hb .1 w))),
           ),
-          λ (n, w). (
-            λ e. n .fix (asks-iff t "F" .0 e),
-            (
-              λ e. n .turn (asks-iff t "T" .0 e),
-              (
-                λ e. n .navaid (asks-iff t "N" .0 e),
-                (
-                  λ e. n .arcRadius (asks-iff t "X" .0 e),
-                  (
-                    λ e. n .theta (asks-iff t "H" .0 e),
-                    (
-                      λ e. n .rho (asks-iff t "R" .0 e),
-                      (
-                        λ e. n .course (asks-iff t "C" .0 e),
-                        (
-                          λ e. n .distance (asks-iff t "D" .0 e),
-                          (
-                            λ e. ⊎-elim (λ h. w (hb .0 h) .0) (λ h. n .altitude (asks-iff t "A" .0 h)) (either b (member (code "A") (needed t)) e),
-                            (
-                              λ e. ⊎-elim (λ h. w (hb .0 h) .1) (λ h. absurd (false≢true (sym (row-of t .its-letters) ∙ h))) (either b (member (code " ") (needed t)) e),
-                              (λ e. n .centreFix (asks-iff t "O" .0 e), tt),
-                            ),
-                          ),
-                        ),
-                      ),
-                    ),
-                  ),
-                ),
-              ),
-            ),
-          ),
+          λ (n, w).
+              also (by "F" (n .fix))
+              (also (by "T" (n .turn))
+              (also (by "N" (n .navaid))
+              (also (by "X" (n .arcRadius))
+              (also (by "H" (n .theta))
+              (also (by "R" (n .rho))
+              (also (by "C" (n .course))
+              (also (by "D" (n .distance))
+              (also (or-both "A" (λ x. w x .0) (by "A" (n .altitude)))
+              (also (or-both " " (λ x. w x .1) (λ h. absurd (false≢true (sym (row-of t .its-letters) ∙ h))))
+              (also (by "O" (n .centreFix))
+              tt)))))))))),
         )
 
 -- ---- the terminator that a legal record names

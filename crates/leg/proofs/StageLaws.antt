@@ -33,7 +33,8 @@ module _ {c x : ℕ} (f : ℕ → Refusal) (next : Verdict) (e : x ≡ c) where
 
 -- ---- the odd one of three companions
 
-module _ (f g h : Field) (rec : List ℕ) (rest : ℕ) {x y z : Bool} (p : x ≡ blank (bytesIn f rec)) (q : y ≡ blank (bytesIn g rec)) (r : z ≡ blank (bytesIn h rec)) where
+module _ (f g h : Field) (rec : List ℕ) (rest : ℕ)
+    {x y z : Bool} (p : x ≡ blank (bytesIn f rec)) (q : y ≡ blank (bytesIn g rec)) (r : z ≡ blank (bytesIn h rec)) where
   pub odd-blank : (x && (y && z)) ≡ true → rest ≡ oddOne f g h rec rest
   unfolding oddOne
   odd-blank e = rw (← p, ← q, ← r, e)

@@ -41,9 +41,31 @@ pub enum Terminator {
 // For each terminator its two letters.
 const NAMES: [u8; 46] = *b"AFCACDCFCICRDFFAFCFDFMHAHFHMIFPIRFTFVAVDVIVMVR";
 
-// For each terminator the letters of the fields that it needs, and blanks up to eight places.
-const NEEDED: [u8; 184] =
-    *b"FTNHRC  CA      NCD     FNHRCD  C       NHC     F       FNHRCA  FNHRCD  FNHRCD  FNHRC   FTCDA   FTCD    FTCD    F       FTNHRCDAFTDXO   F       CA      NCD     C       C       NHC     ";
+// For each terminator, a line each, the letters of the fields that it needs, and blanks up to eight places.
+const NEEDED: [u8; 184] = *b"\
+    FTNHRC  \
+    CA      \
+    NCD     \
+    FNHRCD  \
+    C       \
+    NHC     \
+    F       \
+    FNHRCA  \
+    FNHRCD  \
+    FNHRCD  \
+    FNHRC   \
+    FTCDA   \
+    FTCD    \
+    FTCD    \
+    F       \
+    FTNHRCDA\
+    FTDXO   \
+    F       \
+    CA      \
+    NCD     \
+    C       \
+    C       \
+    NHC     ";
 
 // For each terminator whether it ends at a fix, and whether it is a holding.
 const ENDS: [u8; 23] = *b"10010010000111101100000";

@@ -1,6 +1,7 @@
 -- One record alone, read and written: the answers, and every byte of a lent buffer.
 -- Assumes nothing.
 use Prim.Native.Nat.{ℕ, _+_, _-_}
+use mathlib.Core.Path.{_≡_}
 use mathlib.Core.Bool.{cond}
 use mathlib.Core.List.{List, _∷_, _++_}
 use lib.Dec.{eqb, ltb}
@@ -69,6 +70,10 @@ writtenBy (Refused r) n rec = replicate n 0
 
 abbrev pub written : ℕ → List ℕ → List ℕ
 written n rec = writtenBy (writing n rec) n rec
+
+-- a buffer that was lent is left with it, and the verdict is given
+abbrev pub Wrote : List ℕ → (before : List ℕ) → Verdict → (after : List ℕ) → Type 0
+Wrote rec before verdict after = (verdict ≡ writing (length before) rec) × (after ≡ written (length before) rec)
 
 abbrev pub writingLeg : ℕ → Leg → Verdict
 writingLeg n g = writing n (renderLeg g)

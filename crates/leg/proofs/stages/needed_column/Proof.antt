@@ -44,7 +44,8 @@ is-blank-requires c κs = let turn = c .before .before .before in counted-at nee
 returns : tie.Need-returns Inv-loop μ-loop
 returns c =
     let turn = c .before .before .before .before .before in
-    missing-here _ _ needable _ (turn .before .loop .inv .1) _ (turn .loop-test .taken) (c .before .before .asked .ensures) (c .before .is-blank .ensures) (c .if1 .taken)
+    let inv = turn .before .loop .inv in
+    missing-here _ _ needable _ (inv .1) _ (turn .loop-test .taken) (c .before .before .asked .ensures) (c .before .is-blank .ensures) (c .if1 .taken)
 
 add-i : tie.Need-add-i Inv-loop μ-loop
 add-i c = search needs
@@ -55,7 +56,9 @@ loop-less c = search needs
 loop-again : tie.Need-loop-again Inv-loop μ-loop
 loop-again c =
     let turn = c .before .before .before .before .before in
-    (search needs, missing-on _ _ needable _ (turn .before .loop .inv .1) _ (turn .loop-test .taken) (c .before .before .asked .ensures) (c .before .is-blank .ensures) (c .if1 .left))
+    let inv = turn .before .loop .inv in
+    let on = missing-on _ _ needable _ (inv .1) _ (turn .loop-test .taken) (c .before .before .asked .ensures) (c .before .is-blank .ensures) (c .if1 .left) in
+    (search needs, on)
 
 returns-2 : tie.Need-returns-2 Inv-loop μ-loop
 returns-2 c = missing-none _ _ needable _ (c .before .loop .inv .1) (c .loop-test .left)

@@ -21,12 +21,14 @@ returns c =
 returns-2 : tie.Need-returns-2
 returns-2 c =
     let looked = c .before .before in
-    odd-first _ _ _ _ _ (looked .before .before .is-blank .ensures) (looked .before .is-blank2 .ensures) (looked .is-blank3 .ensures) (c .before .if1 .left) (c .if2 .taken)
+    odd-first _ _ _ _ _ (looked .before .before .is-blank .ensures) (looked .before .is-blank2 .ensures) (looked .is-blank3 .ensures)
+    (c .before .if1 .left) (c .if2 .taken)
 
 returns-3 : tie.Need-returns-3
 returns-3 c =
     let looked = c .before .before .before in
-    odd-second _ _ _ _ _ (looked .before .before .is-blank .ensures) (looked .before .is-blank2 .ensures) (looked .is-blank3 .ensures) (c .before .if2 .left) (c .if3 .taken)
+    odd-second _ _ _ _ _ (looked .before .before .is-blank .ensures) (looked .before .is-blank2 .ensures) (looked .is-blank3 .ensures)
+    (c .before .if2 .left) (c .if3 .taken)
 
 returns-4 : tie.Need-returns-4
 returns-4 c =

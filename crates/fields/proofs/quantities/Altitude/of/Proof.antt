@@ -22,7 +22,8 @@ number-within-requires c κs = search needs
 returns-2 : tie.Need-returns-2
 returns-2 c =
     let blank = c .before .before .before .before in
-    altitude-level _ _ _ (blank .before .before .pre .2) (sym (blank .blank-in .ensures) ∙ c .before .before .before .if1 .left) (c .before .before .byte-in .ensures) (c .before .if2 .taken) (c .number-within .ensures)
+    altitude-level _ _ _ (blank .before .before .pre .2) (sym (blank .blank-in .ensures) ∙ c .before .before .before .if1 .left)
+    (c .before .before .byte-in .ensures) (c .before .if2 .taken) (c .number-within .ensures)
 
 number-within-requires-2 : tie.Need-number-within-requires-2
 number-within-requires-2 c κs = search needs
@@ -30,7 +31,8 @@ number-within-requires-2 c κs = search needs
 returns-3 : tie.Need-returns-3
 returns-3 c =
     let blank = c .before .before .before .before .before in
-    altitude-below _ _ _ (blank .before .before .pre .2) (sym (blank .blank-in .ensures) ∙ c .before .before .before .before .if1 .left) (c .before .before .before .byte-in .ensures) (c .before .if3 .taken) (c .number-within2 .ensures)
+    altitude-below _ _ _ (blank .before .before .pre .2) (sym (blank .blank-in .ensures) ∙ c .before .before .before .before .if1 .left)
+    (c .before .before .before .byte-in .ensures) (c .before .if3 .taken) (c .number-within2 .ensures)
 
 number-in-requires : tie.Need-number-in-requires
 number-in-requires c κs = search needs
@@ -38,7 +40,8 @@ number-in-requires c κs = search needs
 returns-4 : tie.Need-returns-4
 returns-4 c =
     let blank = c .before .before .before .before .before in
-    altitude-feet _ _ _ (blank .before .before .pre .2) (sym (blank .blank-in .ensures) ∙ c .before .before .before .before .if1 .left) (c .before .before .before .byte-in .ensures) (c .before .before .if2 .left) (c .before .if3 .left) (c .number-in .ensures)
+    altitude-feet _ _ _ (blank .before .before .pre .2) (sym (blank .blank-in .ensures) ∙ c .before .before .before .before .if1 .left)
+    (c .before .before .before .byte-in .ensures) (c .before .before .if2 .left) (c .before .if3 .left) (c .number-in .ensures)
 
 pub of-spec : {M : Type 1} → statement M
 of-spec =
