@@ -9,11 +9,12 @@ use mathlib.Core.Option.{some}
 use Prim.Native.Nat.{ℕ, _-_, _≤_}
 use lib.ListN.{length, replicate}
 use Rattle.slices.specs.Part.{padded}
-use Rattle.refusals.specs.Table.{fieldContent}
+use Rattle.refusals.specs.Table.{fieldContent, companionBlank, neededBlank}
 use Rattle.refusals.specs.declared.Refusal.{Refusal}
 use Rattle.refusals.specs.declared.Verdict.the-variants.{Accepted, Refused}
 use Rattle.columns.specs.Rows.{Leftmost}
 use Rattle.columns.specs.Kinds.{kindOf, layoutOf, firstBadField}
+use Rattle.leg.specs.Stages.{companionColumn, neededColumn}
 use Rattle.leg.specs.Judge.{stage}
 use Rattle.leg.specs.Legal.{Legal}
 use Rattle.fields.specs.Leg.{renderLeg}
@@ -48,7 +49,7 @@ use Rattle.selection.proofs.Origins.{sources-handed}
 use Rattle.selection.proofs.Answers as answers
 use Rattle.answers.specs.Answers.{answered, filled}
 use Rattle.answers.proofs.Lengths as printed
-use Rattle.statements.specs.Order.{roomStage, readOrder, writeOrder, fileOrder, checkOrder, pickOrder, newFileOrder, FirstWanted, FirstCorrection}
+use Rattle.statements.specs.Order.{companionOrder, neededOrder, roomStage, readOrder, writeOrder, fileOrder, checkOrder, pickOrder, newFileOrder, FirstWanted, FirstCorrection}
 use Rattle.statements.proofs.OrderLaws as order
 
 -- ---- 1: "Every refusal has a number, a place and a column, the first in a stated order, and a lent output buffer then holds only zero bytes."
@@ -79,7 +80,8 @@ pub answer-refused : (longest lent : ℕ) (answer : List ℕ) (r : Refusal)
 answer-refused = order.answer-first
 
 -- And the stages that look at many things one after the other: the records of a file or of a route, by the first record and there the first
--- stage; the fields of a record from left to right; the lines of a log, which goes wrong at one place at most; the wanted numbers; the corrections.
+-- stage; the fields of a record from left to right, its companions by their groups, the fields that it needs; the lines of a log, which goes
+-- wrong at one place at most; the wanted numbers; the corrections.
 
 pub first-record : (recs : List (List ℕ)) (r : Refusal) → (walkFrom nothing 1 recs ≡ Refused r) ↔ FirstRecord r nothing 1 recs
 first-record recs r = walk-refuses r nothing 1 recs
@@ -87,6 +89,14 @@ first-record recs r = walk-refuses r nothing 1 recs
 pub leftmost-field : (place : ℕ) (rec : List ℕ) (r : Refusal) → (stage (firstBadField rec) (fieldContent place) Accepted ≡ Refused r)
     ↔ ((c : ℕ) × (1 ≤ c) × (r ≡ fieldContent place c) × Leftmost rec c (layoutOf (kindOf rec)))
 leftmost-field = order.content-refuses
+
+pub first-companion : (place : ℕ) (rec : List ℕ) (r : Refusal) → (stage (companionColumn rec) (companionBlank place) Accepted ≡ Refused r)
+    ↔ First r (companionOrder place rec)
+first-companion = order.companions-refuse
+
+pub lowest-needed : (place : ℕ) (rec : List ℕ) (r : Refusal) → (stage (neededColumn rec) (neededBlank place) Accepted ≡ Refused r)
+    ↔ First r (neededOrder place rec)
+lowest-needed = order.needed-refuses
 
 pub first-line : (log : List ℕ) (frozen : ℕ) (r : Refusal) → (readLog log frozen ≡ refused r) ↔ RefusedLog log frozen r
 first-line = refused-iff

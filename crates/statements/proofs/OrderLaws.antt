@@ -3,8 +3,8 @@
 -- Assumes nothing.
 use mathlib.Core.Path.{_≡_, refl, sym, ap, subst, _∙_}
 use mathlib.Core.Logic.{_↔_, _⊎_, inl, inr, Iff·trans}
-use mathlib.Core.Bool.{true, _||_, false≢true}
-use mathlib.Core.List.{List, [], _∷_, _++_}
+use mathlib.Core.Bool.{Bool, true, false, _&&_, _||_, false≢true}
+use mathlib.Core.List.{List, [], _∷_, _++_, map}
 use mathlib.Core.Option.{Option, none, some}
 use Prim.Native.Nat.{ℕ, _+_, _≤_, _<_}
 use native.Mathlib.Omega.{arith}
@@ -17,16 +17,21 @@ use Rattle.refusals.specs.declared.Refusal.{Refusal}
 use Rattle.refusals.specs.declared.Verdict.{Verdict}
 use Rattle.refusals.specs.declared.Verdict.the-variants.{Accepted, Refused}
 use Rattle.refusals.proofs.VerdictLaws.{never, same-refusal}
+use Rattle.slices.specs.Part.{blank}
 use Rattle.columns.specs.Rows.{Leftmost}
+use Rattle.columns.specs.Fields.{field, bytesIn}
+use Rattle.columns.specs.declared.field.Field.{Field}
 use Rattle.columns.specs.Kinds.{kindOf, layoutOf, firstBadField}
 use Rattle.columns.specs.declared.Kind.{Kind}
 use Rattle.columns.specs.declared.Kind.the-variants as kind
 use Rattle.columns.proofs.RowLaws.{leftmost-iff}
-use Rattle.leg.specs.Stages.{companionColumn, neededColumn}
+use Rattle.leg.specs.Stages.{oddOne, companionColumn, needable, missing, neededOf, neededColumn}
+use Rattle.leg.specs.declared.stages.Needable.{Needable}
 use Rattle.leg.specs.Judge.{stage, judgedLeg, byKind, judged}
 use Rattle.parts.specs.Record.{alone, readingOf, writing, sizeColumn, columnsOf}
 use Rattle.parts.proofs.Theorems.{reading-verdict}
 use Rattle.routes.specs.InTurn.{inTurn}
+use Rattle.routes.specs.Places.{Every}
 use Rattle.routes.specs.First.{First}
 use Rattle.routes.specs.Files.{fileVerdict}
 use Rattle.routes.specs.Sources.{records, inUse, sourcesOf}
@@ -40,7 +45,7 @@ use Rattle.selection.specs.Pick.{lengthStage, ifAccepted, opened, wantedStage, 
 use Rattle.selection.proofs.OpenedLaws.{said-opening}
 use Rattle.selection.proofs.PickSteps.{Whole, whole-picks}
 use Rattle.answers.specs.Answers.{answered}
-use Rattle.statements.specs.Order.{recordOrder, readOrder, roomStage, writeOrder, fileOrder, linesStage, numbersStage, correctionsStage, reading, checkOrder, pickOrder, newFileOrder, NotInLog, FirstWanted, at, behind, FirstCorrection, unapplied, route}
+use Rattle.statements.specs.Order.{recordOrder, companionOrder, neededStage, neededOrder, readOrder, roomStage, writeOrder, fileOrder, linesStage, numbersStage, correctionsStage, reading, checkOrder, pickOrder, newFileOrder, NotInLog, FirstWanted, at, behind, FirstCorrection, unapplied, route}
 
 -- ---- verdicts in turn
 
@@ -103,6 +108,52 @@ content-refuses place rec r = (
       let q : firstBadField rec ≡ c = leftmost-iff (layoutOf (kindOf rec)) rec c k .1 l in
       rw (q, ne-eqb c 0 (λ (z : c ≡ 0). omega arith), e),
 )
+
+-- a group of companions in front of others
+odd-front : (f g h : Field) (rec : List ℕ) (rest : ℕ) → eqb (f .0) 0 ≡ false → eqb (g .0) 0 ≡ false → eqb (h .0) 0 ≡ false
+    → (r : ℕ → Refusal) → stage (oddOne f g h rec rest) r Accepted ≡ inTurn (stage (oddOne f g h rec 0) r Accepted ∷ stage rest r Accepted ∷ [])
+unfolding oddOne stage inTurn
+odd-front f g h rec rest a b c r =
+    split (blank (bytesIn f rec) && (blank (bytesIn g rec) && blank (bytesIn h rec))) (λ t. rw t (sym (turns.alone _)))
+    (λ t.
+    split (blank (bytesIn f rec)) (λ u. rw (t, u, a))
+    (λ u.
+    split (blank (bytesIn g rec)) (λ v. rw (t, u, v, b))
+    (λ v.
+    split (blank (bytesIn h rec)) (λ w. rw (t, u, v, w, c)) (λ w. rw (t, u, v, w) (sym (turns.alone _))))))
+
+-- Stage 4 refuses exactly by the first blank companion of the first group that has one and is not all blank.
+pub companions-refuse : (place : ℕ) (rec : List ℕ) (r : Refusal) → (stage (companionColumn rec) (companionBlank place) Accepted ≡ Refused r)
+    ↔ First r (companionOrder place rec)
+unfolding companionColumn
+companions-refuse place rec =
+    by-order (companionOrder place rec)
+    (odd-front (field 30 34) (field 35 36) (field 37 37) rec (oddOne (field 51 54) (field 55 56) (field 79 79) rec centre) refl refl refl refused
+    ∙ ap (λ (v : Verdict). inTurn (stage (oddOne (field 30 34) (field 35 36) (field 37 37) rec 0) refused Accepted ∷ v ∷ []))
+    (odd-front (field 51 54) (field 55 56) (field 79 79) rec centre refl refl refl refused)
+    ∙ turns.in-turn-cons _ _)
+  where
+    refused : ℕ → Refusal
+    refused = companionBlank place
+
+    centre : ℕ
+    centre = oddOne (field 107 111) (field 113 114) (field 115 115) rec 0
+
+-- a needed field in front of others
+missing-order : (place : ℕ) (rec : List ℕ) (asked : ℕ → Bool) (ns : List Needable) → Every (λ n. eqb (n .1 .0) 0 ≡ false) ns
+    → stage (missing asked ns rec) (neededBlank place) Accepted ≡ inTurn (map (neededStage place rec asked) ns)
+unfolding missing stage inTurn
+missing-order place rec asked [] e = refl
+missing-order place rec asked (n ∷ ns) e =
+    split (asked (n .0) && blank (bytesIn (n .1) rec)) (λ t. rw (t, e .0)) (λ t. rw t (missing-order place rec asked ns (e .1)))
+
+-- Stage 5 refuses exactly by the leftmost field that the leg needs and that is blank.
+pub needed-refuses : (place : ℕ) (rec : List ℕ) (r : Refusal) → (stage (neededColumn rec) (neededBlank place) Accepted ≡ Refused r)
+    ↔ First r (neededOrder place rec)
+unfolding neededColumn neededOf
+needed-refuses place rec =
+    by-order (neededOrder place rec)
+    (missing-order place rec _ needable (refl, (refl, (refl, (refl, (refl, (refl, (refl, (refl, (refl, (refl, (refl, tt))))))))))))
 
 -- A record read alone is refused exactly by the first in its order.
 pub read-first : (s : List ℕ) (r : Refusal) → (readingOf s .verdict ≡ Refused r) ↔ First r (readOrder s)

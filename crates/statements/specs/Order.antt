@@ -4,18 +4,25 @@
 -- Assumes nothing.
 use Prim.Native.Nat.{ℕ, _+_, _≤_, _<_}
 use mathlib.Core.Path.{_≡_}
-use mathlib.Core.Bool.{cond}
+use Prim.Native.Char.{code}
+use mathlib.Core.Bool.{Bool, cond, _&&_}
 use mathlib.Core.Logic.{_⊎_}
-use mathlib.Core.List.{List, [], _∷_, _++_}
+use mathlib.Core.List.{List, [], _∷_, _++_, map}
 use mathlib.Core.Option.{none, some}
-use lib.Dec.{ltb}
+use lib.Dec.{eqb, ltb}
 use lib.ListN.{length}
 use Rattle.refusals.specs.Table.{cutShort, fieldContent, companionBlank, neededBlank, doesNotApply, routeRefused, notInLog, bufferTooShort}
 use Rattle.refusals.specs.declared.Refusal.{Refusal}
 use Rattle.refusals.specs.declared.Verdict.{Verdict}
 use Rattle.refusals.specs.declared.Verdict.the-variants.{Accepted, Refused}
+use Rattle.slices.specs.Part.{blank}
+use Rattle.columns.specs.Rows.{byteIn}
+use Rattle.columns.specs.Fields.{field, bytesIn}
 use Rattle.columns.specs.Kinds.{kindOf, firstBadField}
-use Rattle.leg.specs.Stages.{companionColumn, neededColumn}
+use Rattle.columns.specs.Words.{columns}
+use Rattle.leg.specs.Terminator.{terminatorOf}
+use Rattle.leg.specs.Stages.{oddOne, companionColumn, needable, asks, neededColumn}
+use Rattle.leg.specs.declared.stages.Needable.{Needable}
 use Rattle.leg.specs.Judge.{stage, byKind}
 use Rattle.parts.specs.Record.{sizeColumn, columnsOf}
 use Rattle.routes.specs.Files.{sizeStage, tailStage}
@@ -35,6 +42,22 @@ recordOrder place rec =
     byKind (kindOf rec) (stage (companionColumn rec) (companionBlank place) Accepted) ∷
     byKind (kindOf rec) (stage (neededColumn rec) (neededBlank place) Accepted) ∷
     []
+
+-- 4, "the first blank companion": of each group in its order, fix, navaid and centre fix, the first blank one where not all are
+abbrev pub companionOrder : (place : ℕ) → List ℕ → List Verdict
+companionOrder place rec =
+    stage (oddOne (field 30 34) (field 35 36) (field 37 37) rec 0) (companionBlank place) Accepted ∷
+    stage (oddOne (field 51 54) (field 55 56) (field 79 79) rec 0) (companionBlank place) Accepted ∷
+    stage (oddOne (field 107 111) (field 113 114) (field 115 115) rec 0) (companionBlank place) Accepted ∷
+    []
+
+-- 5, "lowest such column": a field that the leg asks for and that is blank
+abbrev pub neededStage : (place : ℕ) → List ℕ → (asked : ℕ → Bool) → Needable → Verdict
+neededStage place rec asked n = cond (asked (n .0) && blank (bytesIn (n .1) rec)) (Refused (neededBlank place (n .1 .0))) Accepted
+
+-- the fields that a leg may need, from left to right
+abbrev pub neededOrder : (place : ℕ) → List ℕ → List Verdict
+neededOrder place rec = map (neededStage place rec (asks (terminatorOf (columns 48 49 rec)) (eqb (byteIn 83 rec) (code "B")))) needable
 
 -- "One record read alone is 133 bytes, place 1; a longer one gives 1 at column 134, if byte 133 is a line feed; then 3, 4, 5."
 abbrev pub readOrder : List ℕ → List Verdict
