@@ -149,7 +149,8 @@ module _ (longest lent : ℕ) (answer : List ℕ) where
   zeros-where-refused r e = split (ltb lent longest) (λ t. rw t) (λ t. absurd (never (sym (rw t at e))))
 
   -- Otherwise the bytes that are counted are the answer.
-  pub whole-where-accepted : answered longest lent answer .verdict ≡ Accepted → take (answered longest lent answer .length) (filled longest lent answer) ≡ answer
+  pub whole-where-accepted : answered longest lent answer .verdict ≡ Accepted
+      → take (answered longest lent answer .length) (filled longest lent answer) ≡ answer
   unfolding answered filled
   whole-where-accepted e =
       split (ltb lent longest) (λ t. absurd (never (rw t at e)))

@@ -63,13 +63,15 @@ unfolding answered filled
 left-clear longest n answer h e = rw (lt-ltb n longest h) e
 
 -- enough is lent, and what is counted is in front
-pub left-whole : (longest n : ℕ) (answer : List ℕ) {out : List ℕ} {a : Answer} {end : ℕ} → longest ≤ n → (end ≡ length answer) × (out ≡ padded n answer) → a ≡ whole end
+pub left-whole : (longest n : ℕ) (answer : List ℕ) {out : List ℕ} {a : Answer} {end : ℕ}
+    → longest ≤ n → (end ≡ length answer) × (out ≡ padded n answer) → a ≡ whole end
     → (a ≡ answered longest n answer) × (out ≡ filled longest n answer)
 unfolding answered filled
 left-whole longest n answer h (l, o) e = rw (le-ltb n longest h) (e ∙ ap whole l, o)
 
 -- and what was written among zeros
-pub left-wrote : (longest n : ℕ) {answer clean out : List ℕ} {a : Answer} {end : ℕ} → longest ≤ n → clean ≡ replicate n 0 → Wrote clean out 0 answer end
+pub left-wrote : (longest n : ℕ) {answer clean out : List ℕ} {a : Answer} {end : ℕ}
+    → longest ≤ n → clean ≡ replicate n 0 → Wrote clean out 0 answer end
     → length answer ≤ longest → a ≡ whole end → (a ≡ answered longest n answer) × (out ≡ filled longest n answer)
 left-wrote longest n {answer} h z w fits e =
     left-whole longest n answer h (

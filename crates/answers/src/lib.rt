@@ -43,8 +43,9 @@ fn too_short(out: &mut [u8]) -> Answer
     ensures { λ r. ⌜ (r ≡ tooShort) × (now (out .exit) ≡ replicate (length (now (out .entry))) 0) ⌝ }
 {
     slices::clear(&mut *out);
+    let refusal = Refusal::buffer_too_short();
     Answer {
-        verdict: Verdict::Refused(Refusal::buffer_too_short()),
+        verdict: Verdict::Refused(refusal),
         length: 0,
     }
 }

@@ -58,8 +58,10 @@ returns-2 c =
     let told = index .before .before in
     let log = told .before .before in
     let clean = log .before .before .before in
-    let text = check-accepted _ _ (log .check-log .ensures) (told .enum-told .given .1) (index .before .sources-of .ensures) (index .index-of .ensures) in
-    left-wrote _ _ (clean .before .before .if1 .left) (clean .clear .ensures) (rw text at (put .put-counts .ensures .0)) (check-fits _ _) (c .written .ensures)
+    let sources = index .before .sources-of .ensures in
+    let text = check-accepted _ _ (log .check-log .ensures) (told .enum-told .given .1) sources (index .index-of .ensures) in
+    let room = clean .before .before .if1 .left in
+    left-wrote _ _ room (clean .clear .ensures) (rw text at (put .put-counts .ensures .0)) (check-fits _ _) (c .written .ensures)
 
 same-length-3 : tie.Need-same-length-3
 same-length-3 c = search needs
@@ -71,7 +73,8 @@ returns-3 c =
     let log = told .before .before in
     let clean = log .before .before .before in
     let text = check-refused _ _ (log .check-log .ensures) (told .verdict .given .1) in
-    left-wrote _ _ (clean .before .before .if1 .left) (clean .clear .ensures) (rw text at (put .put-no .ensures)) (check-fits _ _) (c .written2 .ensures)
+    let room = clean .before .before .if1 .left in
+    left-wrote _ _ room (clean .clear .ensures) (rw text at (put .put-no .ensures)) (check-fits _ _) (c .written2 .ensures)
 
 pub check-answer-spec : {M : Type 1} → statement M
 check-answer-spec =

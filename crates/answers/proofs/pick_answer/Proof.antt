@@ -48,7 +48,8 @@ returns-2 c =
     let picked = clean .before .before in
     let numbers = picked .before .before .before in
     let text = pick-text _ _ _ _ (wanted-numbers _ (numbers .numbers .ensures)) (picked .pick .ensures) in
-    left-wrote _ _ (numbers .before .if1 .left) (clean .clear .ensures) (rw text at (put .put-picked .ensures)) (pick-fits _ _ _) (c .written .ensures)
+    let room = numbers .before .if1 .left in
+    left-wrote _ _ room (clean .clear .ensures) (rw text at (put .put-picked .ensures)) (pick-fits _ _ _) (c .written .ensures)
 
 pub pick-answer-spec : {M : Type 1} → statement M
 pick-answer-spec =
