@@ -9,7 +9,6 @@ use native.Mathlib.Nat.{zero-add}
 use native.Mathlib.Numerals.{add-one}
 use lib.ListN.{length, getD, take, drop, length-drop}
 use lib.Seq.{drop-drop}
-use Rattle.slices.specs.Order.{equal}
 use Rattle.slices.proofs.PartLaws.{one-less}
 use Rattle.refusals.specs.declared.Refusal.{Refusal}
 use Rattle.refusals.specs.declared.Verdict.{Verdict}
@@ -17,19 +16,14 @@ use Rattle.refusals.specs.declared.Verdict.the-variants.{Accepted, Refused}
 use Rattle.corrections.specs.Reading.{Entry}
 use Rattle.corrections.specs.declared.Index.{Index}
 use Rattle.routes.specs.InTurn.{inTurn}
-use Rattle.routes.specs.Places.{keyOf}
 use Rattle.routes.specs.Sources.{logSource, recordAt, inUse, recordsIn}
 use Rattle.routes.specs.Walk.{walked}
 use Rattle.routes.specs.declared.Sources.{Sources}
 use Rattle.routes.proofs.InTurnLaws.{alone}
-use Rattle.applying.specs.Apply.{entriesFrom, touched, together, touchedJudged}
+use Rattle.applying.specs.Apply.{entriesFrom, sameRoute, touched, together, touchedJudged}
 use Rattle.applying.proofs.StateLaws.{in-use-length, in-use-next, in-use-past}
 
 module _ (f l : List ℕ) where
-  -- the records of two sources are of one route
-  abbrev pub SameRoute : ℕ → ℕ → Bool
-  SameRoute a b = equal (keyOf (recordAt f l a)) (keyOf (recordAt f l b))
-
   -- ---- the lines that name a route
 
   module _ (index : Index) (k to s : ℕ) where
@@ -37,7 +31,7 @@ module _ (f l : List ℕ) where
     unfolding touched entriesFrom
     touched-end h = let e : to - k ≡ 0 = omega arith in rw e
 
-    module _ (h : k < to) {x : ℕ} (p : x ≡ logSource (getD (index .at) k 0)) {b : Bool} (e : b ≡ SameRoute x s) where
+    module _ (h : k < to) {x : ℕ} (p : x ≡ logSource (getD (index .at) k 0)) {b : Bool} (e : b ≡ sameRoute f l x s) where
       touched-cons : touched f l (entriesFrom index k (to - k)) s ≡ (b || touched f l (entriesFrom index (k + 1) (to - (k + 1))) s)
       unfolding touched entriesFrom
       touched-cons = rw (one-less to k h, e, p)
@@ -55,7 +49,7 @@ module _ (f l : List ℕ) where
     unfolding together
     together-end e n = let z : together f l s (drop k (inUse st)) ≡ 0 = rw (in-use-past st h long k n) in omega arith
 
-    module _ (n : k < st .count) {b : Bool} (e : b ≡ SameRoute s (getD (st .at) k 0)) where
+    module _ (n : k < st .count) {b : Bool} (e : b ≡ sameRoute f l s (getD (st .at) k 0)) where
       pub together-stop : b ≡ false → together f l s (drop k (inUse st)) ≡ 0
       unfolding together
       together-stop t = rw (in-use-next st h long k n, ← e, t)
@@ -67,7 +61,7 @@ module _ (f l : List ℕ) where
   together-within : (s : ℕ) (xs : List ℕ) → together f l s xs ≤ length xs
   unfolding together
   together-within s [] = omega arith
-  together-within s (x ∷ xs) = by (SameRoute s x) (together-within s xs)
+  together-within s (x ∷ xs) = by (sameRoute f l s x) (together-within s xs)
     where
       by : (b : Bool) → together f l s xs ≤ length xs → cond b (suc (together f l s xs)) 0 ≤ suc (length xs)
       by true w = omega arith

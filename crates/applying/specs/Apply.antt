@@ -18,13 +18,16 @@ use Rattle.routes.specs.Sources.{logSource, recordAt}
 use Rattle.routes.specs.Walk.{walked}
 use Rattle.applying.specs.State.{withSource, withoutRecord}
 
--- the lines of an index: the one at k, and n of them from k on
+-- the lines of an index: the one at k, n of them from k on, and all of them
 abbrev pub entryAt : Index → ℕ → Entry
 entryAt index k = entry (getD (index .kind) k 0) (getD (index .at) k 0) (getD (index .correction) k 0)
 
 unfoldable pub entriesFrom : Index → (k n : ℕ) → List Entry
 entriesFrom index k zero = []
 entriesFrom index k (suc n) = entryAt index k ∷ entriesFrom index (k + 1) n
+
+abbrev pub linesOf : Index → List Entry
+linesOf index = entriesFrom index 0 (index .count)
 
 -- every line lies within the longest log
 abbrev pub Within : Index → Type 0
@@ -38,6 +41,10 @@ module _ (frozen log : List ℕ) where
   abbrev pub recordOfLine : Entry → List ℕ
   recordOfLine e = recordAt frozen log (sourceOf e)
 
+  -- the records of two sources are of one route
+  abbrev pub sameRoute : ℕ → ℕ → Bool
+  sameRoute a b = equal (keyOf (recordAt frozen log a)) (keyOf (recordAt frozen log b))
+
   -- "D: that record, byte for byte, is taken out. A: it's put in by its place."
   unfoldable pub lineApplied : Entry → List ℕ → Option (List ℕ)
   lineApplied e xs = cond (eqb (e .letter) (code "D")) (withoutRecord frozen log (recordOfLine e) xs) (withSource frozen log (sourceOf e) xs)
@@ -50,12 +57,12 @@ module _ (frozen log : List ℕ) where
   -- a line of the correction names the route of a source
   unfoldable pub touched : List Entry → ℕ → Bool
   touched [] s = false
-  touched (e ∷ es) s = equal (keyOf (recordOfLine e)) (keyOf (recordAt frozen log s)) || touched es s
+  touched (e ∷ es) s = sameRoute (sourceOf e) s || touched es s
 
   -- how many of the sources in front are of one route with s
   unfoldable pub together : ℕ → List ℕ → ℕ
   together s [] = 0
-  together s (x ∷ xs) = cond (equal (keyOf (recordAt frozen log s)) (keyOf (recordAt frozen log x))) (suc (together s xs)) 0
+  together s (x ∷ xs) = cond (sameRoute s x) (suc (together s xs)) 0
 
   -- "Under 11 the touched routes are judged in rising byte order", which is the order of the sources: route by route, each that is
   -- touched alone; of the first sources so many are of a route that was judged

@@ -12,9 +12,8 @@ use Rattle.routes.specs.InTurn.{inTurn}
 use Rattle.routes.specs.Sources.{inUse, sourcesFor}
 use Rattle.routes.specs.declared.Sources.{Sources}
 use Rattle.history.specs.Sets.{Numbers}
-use Rattle.applying.specs.Apply.{entriesFrom}
 use Rattle.applying.specs.Correct.{Outcome, stopped, reached}
-use Rattle.applying.specs.Run.{byCorrection, ran}
+use Rattle.applying.specs.Run.{correctionsOf, ran}
 use Rattle.applying.specs.declared.Ran.{Ran}
 
 -- every line lies within the longest log
@@ -38,7 +37,7 @@ bounded (Refused r) o = stopped r
 unfoldable pub ranOver : (frozen log : List ℕ) → Numbers → Index → Sources → Outcome
 ranOver frozen log T index state =
     bounded (boundStage index state)
-    (ran frozen log T 1 (byCorrection 1 (index .corrections) (entriesFrom index 0 (index .count))) (inUse state))
+    (ran frozen log T 1 (correctionsOf index) (inUse state))
 
 -- ---- as the code gives it
 

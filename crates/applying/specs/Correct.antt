@@ -2,6 +2,7 @@
 -- Assumes nothing.
 use Prim.Native.Nat.{ℕ, _≤_}
 use mathlib.Core.Path.{_≡_}
+use mathlib.Core.Bool.{Bool, cond}
 use mathlib.Core.List.{List}
 use mathlib.Core.Option.{Option, some, none}
 use Rattle.refusals.specs.Table.{doesNotApply, routeRefused}
@@ -31,6 +32,10 @@ module _ (frozen log : List ℕ) where
   -- correction n, with its lines: 10, then 11
   unfoldable pub corrected : ℕ → List Entry → List ℕ → Outcome
   corrected n es xs = afterLines n es (linesApplied frozen log es xs)
+
+  -- the same where it is marked; else the records stay as they stand
+  abbrev pub correctedIf : Bool → ℕ → List Entry → List ℕ → Outcome
+  correctedIf marked n es xs = cond marked (corrected n es xs) (reached xs)
 
 -- an outcome as the code gives it
 pub data Comes (c : Corrected) : Outcome → Type 0 where

@@ -7,7 +7,9 @@ use lib.Dec.{eqb}
 use lib.ListN.{getD, take, drop}
 use Rattle.history.specs.Sets.{Numbers}
 use Rattle.corrections.specs.Reading.{Entry}
-use Rattle.applying.specs.Correct.{Outcome, stopped, reached, corrected}
+use Rattle.corrections.specs.declared.Index.{Index}
+use Rattle.applying.specs.Apply.{linesOf}
+use Rattle.applying.specs.Correct.{Outcome, stopped, reached, correctedIf}
 
 -- how many of the lines in front are of correction n
 unfoldable pub leadingLines : ℕ → List Entry → ℕ
@@ -19,6 +21,10 @@ unfoldable pub byCorrection : (n m : ℕ) → List Entry → List (List Entry)
 byCorrection n zero es = []
 byCorrection n (suc m) es = take (leadingLines n es) es ∷ byCorrection (n + 1) m (drop (leadingLines n es) es)
 
+-- those of all corrections of an index
+abbrev pub correctionsOf : Index → List (List Entry)
+correctionsOf index = byCorrection 1 (index .corrections) (linesOf index)
+
 -- from where one outcome leaves the records, or no further
 abbrev pub onward : Outcome → (List ℕ → Outcome) → Outcome
 onward (stopped r) next = stopped r
@@ -27,7 +33,7 @@ onward (reached xs) next = next xs
 -- corrections from number n on, those of a set alone, over the records as they stand
 unfoldable pub ran : (frozen log : List ℕ) → Numbers → (n : ℕ) → List (List Entry) → List ℕ → Outcome
 ran frozen log T n [] xs = reached xs
-ran frozen log T n (es ∷ ess) xs = onward (cond (T n) (corrected frozen log n es xs) (reached xs)) (ran frozen log T (n + 1) ess)
+ran frozen log T n (es ∷ ess) xs = onward (correctedIf frozen log (T n) n es xs) (ran frozen log T (n + 1) ess)
 
 -- the numbers that a row of marks has, one byte for each number from 0 on
 unfoldable pub marked : List ℕ → Numbers

@@ -9,9 +9,7 @@ mod series;
 mod state;
 
 ghost use mathlib.Core.Path.{_≡_};
-ghost use Rattle.slices.specs.Order.{equal};
-ghost use Rattle.routes.specs.Places.{keyOf};
-ghost use Rattle.routes.specs.Sources.{recordAt};
+ghost use Rattle.applying.specs.Apply.{sameRoute};
 ghost use Rattle.applying.specs.Correct.{stopped};
 ghost use Rattle.applying.specs.Run.{marked};
 ghost use Rattle.applying.specs.Bounds.{ranOver, ranAs};
@@ -48,7 +46,7 @@ fn refused_run(refusal: Refusal) -> Ran
 
 // Whether the records of two sources are of one route.
 pub fn same_route<'a>(frozen: &'a [u8], log: &'a [u8], a: u32, b: u32) -> bool
-    ensures { λ r. ⌜ r ≡ equal (keyOf (recordAt (now (frozen .entry)) (now (log .entry)) a)) (keyOf (recordAt (now (frozen .entry)) (now (log .entry)) b)) ⌝ }
+    ensures { λ r. ⌜ r ≡ sameRoute (now (frozen .entry)) (now (log .entry)) a b ⌝ }
 {
     let x = record_at(frozen, log, a);
     let y = record_at(frozen, log, b);

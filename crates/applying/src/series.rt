@@ -1,13 +1,12 @@
 // The corrections of a log, one after the other, those that are marked. `run_marked` assumes of its callers what one correction does, which
 // `bounds` and `known_of` make sure of.
 ghost use mathlib.Core.Path.{_≡_};
-ghost use mathlib.Core.Bool.{cond};
 ghost use Prim.Native.Nat.{_+_, _-_, _≤_};
 ghost use Rattle.routes.specs.Known.{Known};
 ghost use Rattle.routes.specs.Sources.{inUse};
 ghost use Rattle.applying.specs.Apply.{Within, entriesFrom};
-ghost use Rattle.applying.specs.Correct.{Comes, corrected, reached};
-ghost use Rattle.applying.specs.Run.{leadingLines, byCorrection, ran, marked};
+ghost use Rattle.applying.specs.Correct.{Comes, correctedIf};
+ghost use Rattle.applying.specs.Run.{leadingLines, correctionsOf, ran, marked};
 use crate::correct::Corrected;
 use crate::correct::correct;
 use crate::is_marked;
@@ -45,7 +44,7 @@ fn correct_if<'a>(
     state: Sources,
 ) -> Corrected
     requires { ⌜ (state .count ≤ 480) × (to ≤ 444) × Within index × Known (now frozen) (now log) (now known) ⌝ }
-    ensures { λ c. ⌜ Comes c (cond marked (corrected (now (frozen .entry)) (now (log .entry)) n (entriesFrom index from (to - from)) (inUse state)) (reached (inUse state))) ⌝ }
+    ensures { λ c. ⌜ Comes c (correctedIf (now (frozen .entry)) (now (log .entry)) marked n (entriesFrom index from (to - from)) (inUse state)) ⌝ }
 {
     if marked {
         return correct(frozen, log, known, index, from, to, n, state);
@@ -66,7 +65,7 @@ pub(crate) fn run_marked<'a>(
     state: Sources,
 ) -> Corrected
     requires { ⌜ (state .count ≤ 480) × (index .count ≤ 444) × Within index × Known (now frozen) (now log) (now known) ⌝ }
-    ensures { λ c. ⌜ Comes c (ran (now (frozen .entry)) (now (log .entry)) (marked (now (marks .entry))) 1 (byCorrection 1 (index .corrections) (entriesFrom index 0 (index .count))) (inUse state)) ⌝ }
+    ensures { λ c. ⌜ Comes c (ran (now (frozen .entry)) (now (log .entry)) (marked (now (marks .entry))) 1 (correctionsOf index) (inUse state)) ⌝ }
 {
     let total = index.corrections;
     let mut standing = state;

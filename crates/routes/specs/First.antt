@@ -20,9 +20,10 @@ pub data First (r : Refusal) : List Verdict → Type 0 where
 
 -- .. and that of the first of some records, the first of which has a place, at which a stage fails; there it is that of the first such stage
 pub data FirstRecord (r : Refusal) : Seen → (place : ℕ) → List (List ℕ) → Type 0 where
-  at : {s : Seen} {place : ℕ} {rec : List ℕ} {recs : List (List ℕ)} → r .place ≡ place → First r (stagesAfter s place rec) → FirstRecord r s place (rec ∷ recs)
-  behind : {s : Seen} {place : ℕ} {rec : List ℕ} {recs : List (List ℕ)} → AllAccept (stagesAfter s place rec) → FirstRecord r (seenWith s rec) (place + 1) recs
+  at : {s : Seen} {place : ℕ} {rec : List ℕ} {recs : List (List ℕ)} → r .place ≡ place → First r (stagesAfter s place rec)
       → FirstRecord r s place (rec ∷ recs)
+  behind : {s : Seen} {place : ℕ} {rec : List ℕ} {recs : List (List ℕ)} → AllAccept (stagesAfter s place rec)
+      → FirstRecord r (seenWith s rec) (place + 1) recs → FirstRecord r s place (rec ∷ recs)
 
 -- the refusal's number is in a range, and its place is this
 pub record Names (least most place : ℕ) (r : Refusal) : Type 0 where

@@ -11,7 +11,7 @@ use refusals::Verdict;
 // A table that knows no record.
 pub(crate) const NOTHING_KNOWN: [u32; 1] = [0];
 
-// The largest source, which has no slot.
+// The largest source. One more does not fit into a slot, so it is never learnt.
 const LAST_SOURCE: u32 = 4294967295;
 
 // The slot of a source in a table: one for each record of a file, then one for each that a log may hold.
@@ -36,7 +36,7 @@ pub(crate) fn knows(known: &[u32], source: u32) -> bool
     held == source as usize + 1
 }
 
-// Puts the record of a source into the table, if it is legal by itself. A source that has no slot is left out.
+// Puts the record of a source into the table, if it is legal by itself. A source is left out where the table has no slot for it.
 pub fn learn<'a>(frozen: &'a [u8], log: &'a [u8], source: u32, known: &mut [u32])
     ensures { λ _. ⌜ now (known .exit) ≡ learned (now (frozen .entry)) (now (log .entry)) source (now (known .entry)) ⌝ }
 {

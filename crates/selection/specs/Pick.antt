@@ -106,6 +106,10 @@ module _ (frozen log : List ℕ) where
   unfoldable pub takenOf : (n : ℕ) → List Entry → (wanted : List ℕ) → Numbers
   takenOf n es ws = closure procedures (operations frozen log (byCorrection 1 n es)) (wants ws)
 
+  -- what comes of them: the numbers of the set that the log has, and the records that they leave
+  abbrev pub pickBy : Numbers → (n : ℕ) → List Entry → Pick
+  pickBy T n es = ranFirst (carried T n es) (picked (membersFrom T 1 n))
+
   -- the whole log, "then correction by correction 10, 11"
   abbrev pub logJudged : Reading → Verdict
   logJudged (refused r) = Refused r
@@ -121,7 +125,7 @@ module _ (frozen log : List ℕ) where
   pickFrom ws (said n es) =
       judgedFirst (wantedStage n 1 ws)
       (ranFirst (carried everything n es)
-      (λ _. ranFirst (carried (takenOf n es ws) n es) (picked (membersFrom (takenOf n es ws) 1 n))))
+      (λ _. pickBy (takenOf n es ws) n es))
 
   unfoldable pub pickOf : (wanted : List ℕ) → Pick
   pickOf ws = pickFrom ws (opened frozen log)
@@ -153,6 +157,12 @@ module _ (frozen log : List ℕ) where
 unfoldable pub pickedAs : Pick → Picked
 pickedAs (refusedBy r) = record { verdict = Refused r; count = 0; taken = padded 200 []; records = sourcesFor [] }
 pickedAs (picked ns xs) = record { verdict = Accepted; count = length ns; taken = padded 200 ns; records = sourcesFor xs }
+
+-- a new file made of what was lent: the pick, and every byte at the exit
+abbrev pub FileMade : (frozen log wanted lent left : List ℕ) → Picked → Type 0
+FileMade frozen log ws lent left r =
+    let p = filePick frozen log (length lent) ws in
+    (r ≡ pickedAs p) × (left ≡ padded (length lent) (newBytes frozen log p))
 
 -- some records as they are written, each in 132 bytes with its line feed
 unfoldable pub stored : List (List ℕ) → List ℕ

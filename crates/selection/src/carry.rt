@@ -4,7 +4,7 @@ ghost use mathlib.Core.Path.{_≡_};
 ghost use mathlib.Core.Bool.{cond};
 ghost use mathlib.Core.List.{[], _∷_};
 ghost use Prim.Native.Nat.{_+_, _≤_, _<_};
-ghost use Rattle.applying.specs.Apply.{entriesFrom};
+ghost use Rattle.applying.specs.Apply.{linesOf};
 ghost use Rattle.applying.specs.Run.{marked};
 ghost use Rattle.selection.specs.Pick.{
   Reads,
@@ -13,10 +13,9 @@ ghost use Rattle.selection.specs.Pick.{
   grown,
   listed,
   outcomeVerdict,
-  ranFirst,
   refusedBy,
-  picked,
   carried,
+  pickBy,
   pickFrom,
   pickedAs,
 };
@@ -94,7 +93,7 @@ fn members_of(marks: &[u8], total: usize) -> Members
 // The verdict over the whole log, correction by correction 10, 11.
 pub(crate) fn whole<'a>(frozen: &'a [u8], log: &'a [u8], index: Index) -> Verdict
     requires { ⌜ Reads (now log) index ⌝ }
-    ensures { λ r. ⌜ r ≡ outcomeVerdict (carried (now (frozen .entry)) (now (log .entry)) everything (index .corrections) (entriesFrom index 0 (index .count))) ⌝ }
+    ensures { λ r. ⌜ r ≡ outcomeVerdict (carried (now (frozen .entry)) (now (log .entry)) everything (index .corrections) (linesOf index)) ⌝ }
 {
     let marks = [1u8; MARKS];
     let state = sources_of(frozen);
@@ -105,7 +104,7 @@ pub(crate) fn whole<'a>(frozen: &'a [u8], log: &'a [u8], index: Index) -> Verdic
 // What the marked corrections make of the frozen records.
 fn carry<'a>(frozen: &'a [u8], log: &'a [u8], index: Index, marks: &[u8]) -> Picked
     requires { ⌜ Reads (now log) index ⌝ }
-    ensures { λ r. ⌜ r ≡ pickedAs (ranFirst (carried (now (frozen .entry)) (now (log .entry)) (marked (now (marks .entry))) (index .corrections) (entriesFrom index 0 (index .count))) (picked (membersFrom (marked (now (marks .entry))) 1 (index .corrections)))) ⌝ }
+    ensures { λ r. ⌜ r ≡ pickedAs (pickBy (now (frozen .entry)) (now (log .entry)) (marked (now (marks .entry))) (index .corrections) (linesOf index)) ⌝ }
 {
     let state = sources_of(frozen);
     let new = run(frozen, log, index, marks, state);
@@ -131,7 +130,7 @@ fn carry<'a>(frozen: &'a [u8], log: &'a [u8], index: Index, marks: &[u8]) -> Pic
 // The pick once a file and a log are open: 12, then the whole log; then the wanted corrections and those that they rely on, alone.
 pub(crate) fn pick_from<'a>(frozen: &'a [u8], log: &'a [u8], index: Index, wanted: &[u32]) -> Picked
     requires { ⌜ Reads (now log) index ⌝ }
-    ensures { λ r. ⌜ r ≡ pickedAs (pickFrom (now (frozen .entry)) (now (log .entry)) (now (wanted .entry)) (said (index .corrections) (entriesFrom index 0 (index .count)))) ⌝ }
+    ensures { λ r. ⌜ r ≡ pickedAs (pickFrom (now (frozen .entry)) (now (log .entry)) (now (wanted .entry)) (said (index .corrections) (linesOf index))) ⌝ }
 {
     let total = index.corrections;
     let judged = within(total, wanted);

@@ -10,9 +10,7 @@ mod opening;
 mod relied;
 
 ghost use mathlib.Core.Path.{_≡_};
-ghost use lib.ListN.{length};
-ghost use Rattle.slices.specs.Part.{padded};
-ghost use Rattle.selection.specs.Pick.{logVerdict, pickOf, filePick, newBytes, lineIn, lineOfPick, pickedAs};
+ghost use Rattle.selection.specs.Pick.{logVerdict, pickOf, FileMade, lineIn, lineOfPick, pickedAs};
 use carry::pick_from;
 use carry::refused_pick;
 use carry::whole;
@@ -63,7 +61,7 @@ pub fn pick<'a>(frozen: &'a [u8], log: &'a [u8], wanted: &[u32]) -> Picked
 // The same with the new file's bytes in a buffer: 14 where fewer than 63,840 bytes are lent. Zeros past the file; on every refusal the whole
 // buffer is 0.
 pub fn new_file<'a>(frozen: &'a [u8], log: &'a [u8], wanted: &[u32], out: &mut [u8]) -> Picked
-    ensures { λ r. ⌜ (r ≡ pickedAs (filePick (now (frozen .entry)) (now (log .entry)) (length (now (out .entry))) (now (wanted .entry)))) × (now (out .exit) ≡ padded (length (now (out .entry))) (newBytes (now (frozen .entry)) (now (log .entry)) (filePick (now (frozen .entry)) (now (log .entry)) (length (now (out .entry))) (now (wanted .entry))))) ⌝ }
+    ensures { λ r. ⌜ FileMade (now (frozen .entry)) (now (log .entry)) (now (wanted .entry)) (now (out .entry)) (now (out .exit)) r ⌝ }
 {
     slices::clear(&mut *out);
     if out.len() < LONGEST_FILE {
