@@ -13,7 +13,7 @@ use Rattle.columns.specs.Patterns.{codes}
 use Rattle.refusals.specs.declared.Refusal.{Refusal}
 use Rattle.refusals.specs.declared.Verdict.{Verdict}
 use Rattle.refusals.specs.declared.Verdict.the-variants.{Accepted, Refused}
-use Rattle.wanted.specs.Numbers.{numbersIn, listed, wantedOf}
+use Rattle.wanted.specs.Numbers.{numbersIn, wantedAs, wantedOf}
 use Rattle.wanted.specs.declared.Wanted.{Wanted}
 use Rattle.routes.specs.Legal.{lines}
 use Rattle.routes.specs.Sources.{recordAt, records, sourcesOf, sourcesFor}
@@ -31,11 +31,11 @@ use Rattle.answers.specs.Answers.{noLine, countLine, takeLines, pickText
 
 module _ (text : List ℕ) {w : Wanted} (e : w ≡ wantedOf text) where
   pub wanted-within : w .count ≤ length (w .at)
-  unfolding wantedOf listed
+  unfolding wantedOf wantedAs
   wanted-within = rw e (omega (arith, length-append (numbersIn 200 text) (replicate (201 - length (numbersIn 200 text)) 0)))
 
   pub wanted-numbers : take (w .count) (w .at) ≡ numbersIn 200 text
-  unfolding wantedOf listed
+  unfolding wantedOf wantedAs
   wanted-numbers = rw e (take-at (numbersIn 200 text) (replicate (201 - length (numbersIn 200 text)) 0) (length (numbersIn 200 text)) refl)
 
   pub wanted-counted : w .count ≡ length (take (w .count) (w .at))

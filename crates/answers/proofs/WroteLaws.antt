@@ -12,7 +12,7 @@ use Rattle.slices.proofs.PartLaws.{part-all}
 use Rattle.slices.proofs.WriteLaws.{sets-append, stored-front}
 use Rattle.digits.specs.Decimal.{decimal}
 use Rattle.digits.proofs.DecimalLaws.{Short, decimal-one, decimal-more}
-use Rattle.answers.specs.Answers.{answered, filled, tabbed, tooShort, whole}
+use Rattle.answers.specs.Answers.{answered, filled, tabbed, tooShort, wholeAnswer}
 use Rattle.answers.specs.Written.{Wrote}
 use Rattle.answers.specs.declared.Answer.{Answer}
 
@@ -64,15 +64,15 @@ left-clear longest n answer h e = rw (lt-ltb n longest h) e
 
 -- enough is lent, and what is counted is in front
 pub left-whole : (longest n : ℕ) (answer : List ℕ) {out : List ℕ} {a : Answer} {end : ℕ}
-    → longest ≤ n → (end ≡ length answer) × (out ≡ padded n answer) → a ≡ whole end
+    → longest ≤ n → (end ≡ length answer) × (out ≡ padded n answer) → a ≡ wholeAnswer end
     → (a ≡ answered longest n answer) × (out ≡ filled longest n answer)
 unfolding answered filled
-left-whole longest n answer h (l, o) e = rw (le-ltb n longest h) (e ∙ ap whole l, o)
+left-whole longest n answer h (l, o) e = rw (le-ltb n longest h) (e ∙ ap wholeAnswer l, o)
 
 -- and what was written among zeros
 pub left-wrote : (longest n : ℕ) {answer clean out : List ℕ} {a : Answer} {end : ℕ}
     → longest ≤ n → clean ≡ replicate n 0 → Wrote clean out 0 answer end
-    → length answer ≤ longest → a ≡ whole end → (a ≡ answered longest n answer) × (out ≡ filled longest n answer)
+    → length answer ≤ longest → a ≡ wholeAnswer end → (a ≡ answered longest n answer) × (out ≡ filled longest n answer)
 left-wrote longest n {answer} h z w fits e =
     left-whole longest n answer h (
       w .stops ∙ (let k : 0 + length answer ≡ length answer = omega arith in k),

@@ -81,12 +81,12 @@ newfileAnswer frozen log want = fileText frozen log (pickOf frozen log (numbersI
 abbrev pub tooShort : Answer
 tooShort = record { verdict = Refused bufferTooShort; length = 0 }
 
-abbrev pub whole : (bytes : ℕ) → Answer
-whole n = record { verdict = Accepted; length = n }
+abbrev pub wholeAnswer : (bytes : ℕ) → Answer
+wholeAnswer n = record { verdict = Accepted; length = n }
 
 -- where fewer bytes are lent than the longest answer needs, none is given, whatever it would be
 unfoldable pub answered : (longest lent : ℕ) (answer : List ℕ) → Answer
-answered longest lent answer = cond (ltb lent longest) tooShort (whole (length answer))
+answered longest lent answer = cond (ltb lent longest) tooShort (wholeAnswer (length answer))
 
 -- and the buffer is nothing but zeros; else it has the answer, and zeros past it
 unfoldable pub filled : (longest lent : ℕ) (answer : List ℕ) → List ℕ

@@ -5,7 +5,7 @@ mod texts;
 
 ghost use mathlib.Core.Path.{_≡_};
 ghost use lib.ListN.{length, replicate};
-ghost use Rattle.answers.specs.Answers.{pickAnswer, newfileAnswer, checkAnswer, tooShort, whole, Leaves};
+ghost use Rattle.answers.specs.Answers.{pickAnswer, newfileAnswer, checkAnswer, tooShort, wholeAnswer, Leaves};
 use corrections::LONGEST_LOG;
 use corrections::MOST_CORRECTIONS;
 use refusals::Refusal;
@@ -52,7 +52,7 @@ fn too_short(out: &mut [u8]) -> Answer
 
 // The answer that is written in so many bytes.
 fn written(length: usize) -> Answer
-    ensures { λ r. ⌜ r ≡ whole length ⌝ }
+    ensures { λ r. ⌜ r ≡ wholeAnswer length ⌝ }
 {
     Answer {
         verdict: Verdict::Accepted,

@@ -24,7 +24,7 @@ use Rattle.routes.proofs.PlaceLaws.{place-key, of-route-in, of-route-out, none-
 use Rattle.routes.proofs.Routes.{no-record}
 use Rattle.history.specs.Format as H
 use Rattle.history.specs.Format.{own}
-use Rattle.history.specs.Apply.{Correction, routeOf, Touches, touchedAccepted}
+use Rattle.history.specs.Apply.{Correction, routeOfOp, Touches, touchedAccepted}
 use Rattle.applying.specs.Apply.{recordOfLine, touched, together, touchedJudged}
 use Rattle.applying.specs.Procedures.{accepts, procedures, operation}
 use Rattle.applying.proofs.Procedures.{own-route, rising, accepts-iff}
@@ -40,7 +40,7 @@ touched-iff [] rs = (λ _ k t. absurd t, λ _. refl)
 touched-iff (o ∷ c) rs = by (touched-iff c rs)
   where
     k₀ : List ℕ
-    k₀ = routeOf procedures o
+    k₀ = routeOfOp procedures o
 
     one : (accepts (own procedures k₀ rs) ≡ true) ↔ (walked (ofRoute k₀ rs) ≡ Accepted)
     one = (
@@ -62,8 +62,8 @@ touched-iff (o ∷ c) rs = by (touched-iff c rs)
 
 module _ (f l : List ℕ) where
   -- the route of a line is that of its record
-  line-route : (e : Entry) → routeOf procedures (operation f l e) ≡ keyOf (recordOfLine f l e)
-  unfolding routeOf operation
+  line-route : (e : Entry) → routeOfOp procedures (operation f l e) ≡ keyOf (recordOfLine f l e)
+  unfolding routeOfOp operation
   line-route e = split (eqb (e .letter) (code "D")) (λ t. rw t) (λ t. rw t)
 
   -- a line names the route of a source

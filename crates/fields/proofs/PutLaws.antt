@@ -12,7 +12,7 @@ use borrow.Author.Tests.{lt-ltb, le-ltb, ne-eqb}
 use Rattle.slices.specs.Part.{part, blank}
 use Rattle.slices.proofs.PartLaws.{part-all}
 use Rattle.fields.specs.Pieces.{Piece, orZero, put, putAll}
-use Rattle.fields.specs.Numbers.{digitsOf, marked}
+use Rattle.fields.specs.Numbers.{digitsOf, markedDigits}
 use Rattle.fields.specs.Text.{bytesOf, textBytes, wordBytes, letterBytes}
 use Rattle.fields.specs.declared.text.Text.{Text}
 use Rattle.fields.specs.declared.text.Word.the-variants as word
@@ -42,8 +42,8 @@ pub as-right : (at : ℕ) (bs x : List ℕ) {q r : Bool} {z : List ℕ} → q �
 as-right at bs x {q} {r} {z} h e = subst (λ (t : Bool). z ≡ put at (orZero t bs) x) h e
 
 -- .. or how many digits there are
-pub as-wide : (at v : ℕ) (x : List ℕ) {n m : ℕ} {z : List ℕ} → n ≡ m → z ≡ put at (marked [] n [] v) x → z ≡ put at (marked [] m [] v) x
-as-wide at v x {n} {m} {z} h e = subst (λ (k : ℕ). z ≡ put at (marked [] k [] v) x) h e
+pub as-wide : (at v : ℕ) (x : List ℕ) {n m : ℕ} {z : List ℕ} → n ≡ m → z ≡ put at (markedDigits [] n [] v) x → z ≡ put at (markedDigits [] m [] v) x
+as-wide at v x {n} {m} {z} h e = subst (λ (k : ℕ). z ≡ put at (markedDigits [] k [] v) x) h e
 
 pub length-putAll : (ps : List Piece) (out : List ℕ) → length (putAll ps out) ≡ length out
 unfolding putAll put
@@ -73,14 +73,14 @@ sets-append (x ∷ xs) ys out i = let e : i + suc (length xs) ≡ suc i + length
 module _ (before after : List ℕ) (at n v : ℕ) {p : ℕ} (e : p ≡ 10 ^ n) (out : List ℕ) {z : List ℕ} where
   -- a mark, digits, a mark
   pub put-fits : (x y : List ℕ) → v < p → x ≡ sets out at (part (length before) 0 before) → y ≡ sets x (at + length before) (digitsOf n v)
-      → z ≡ sets y (at + length before + n) (part (length after) 0 after) → z ≡ put at (marked before n after v) out
-  unfolding put marked
+      → z ≡ sets y (at + length before + n) (part (length after) 0 after) → z ≡ put at (markedDigits before n after v) out
+  unfolding put markedDigits
   put-fits x y h f g k =
       k
       ∙ rw (lt-ltb v (10 ^ n) (rw e at h), g, f, part-all after, part-all before, sets-append before (digitsOf n v ++ after) out at, sets-append (digitsOf n v) after (sets out at before) (at + length before), digits-length n v)
 
-  pub put-unfit : p ≤ v → z ≡ set out (at + 0) 0 → z ≡ put at (marked before n after v) out
-  unfolding put marked
+  pub put-unfit : p ≤ v → z ≡ set out (at + 0) 0 → z ≡ put at (markedDigits before n after v) out
+  unfolding put markedDigits
   put-unfit h f = rw (le-ltb v (10 ^ n) (rw e at h)) (f ∙ rw add-zero)
 
 module _ (at : ℕ) (out : List ℕ) {z : List ℕ} where

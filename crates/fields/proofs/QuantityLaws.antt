@@ -22,7 +22,7 @@ use Rattle.leg.specs.Terminator.{terminatorOf, nameOf}
 use Rattle.leg.proofs.Legality.{named-back}
 use Rattle.leg.proofs.TerminatorLaws.{row-of}
 use Rattle.fields.specs.Pieces.{withBlanks}
-use Rattle.fields.specs.Numbers.{digitsOf, marked, numeral}
+use Rattle.fields.specs.Numbers.{digitsOf, markedDigits, numeral}
 use Rattle.fields.specs.Quantities.{
   rnpOf,
   rnpBytes,
@@ -74,12 +74,12 @@ use Rattle.fields.proofs.TextLaws.{with-blanks-full, with-blanks-none, 
 
 -- ---- digits between marks
 
-marked-fits : (before : List ℕ) (n : ℕ) (after : List ℕ) (v : ℕ) → v < 10 ^ n → marked before n after v ≡ before ++ (digitsOf n v ++ after)
-unfolding marked
+marked-fits : (before : List ℕ) (n : ℕ) (after : List ℕ) (v : ℕ) → v < 10 ^ n → markedDigits before n after v ≡ before ++ (digitsOf n v ++ after)
+unfolding markedDigits
 marked-fits before n after v h = rw (lt-ltb v (10 ^ n) h)
 
 -- digits are written as they were
-marked-back : (before : List ℕ) (n : ℕ) (after : List ℕ) (h : List ℕ) → Digits n h → marked before n after (value h) ≡ before ++ (h ++ after)
+marked-back : (before : List ℕ) (n : ℕ) (after : List ℕ) (h : List ℕ) → Digits n h → markedDigits before n after (value h) ≡ before ++ (h ++ after)
 marked-back before n after h d =
     let l : value h < 10 ^ n = subst (λ (k : ℕ). value h < 10 ^ k) (d .0) (value-below h (d .1)) in
     let e : digitsOf n (value h) ≡ h = ap (λ (k : ℕ). digitsOf k (value h)) (sym (d .0)) ∙ digits-back h (d .1) in
@@ -89,19 +89,19 @@ module _ (w : ℕ) (before : List ℕ) (n : ℕ) (after : List ℕ) (wide : leng
   full : (v : ℕ) → length (before ++ (digitsOf n v ++ after)) ≡ w
   full v = length-append before (digitsOf n v ++ after) ∙ ap (λ (k : ℕ). length before + k) (length-append (digitsOf n v) after ∙ ap (λ (k : ℕ). k + length after) (digits-length n v)) ∙ wide
 
-  pub marked-short : 1 ≤ w → (v : ℕ) → length (marked before n after v) ≤ w
-  unfolding marked
+  pub marked-short : 1 ≤ w → (v : ℕ) → length (markedDigits before n after v) ≤ w
+  unfolding markedDigits
   marked-short h v = split (ltb v (10 ^ n)) (λ e. rw (e, full v) (omega arith)) (λ e. rw e h)
 
   -- a number that its field holds
   record Held (v : ℕ) : Type 0 where
     below : v < 10 ^ n
-    bytes : withBlanks w (marked before n after v) ≡ before ++ (digitsOf n v ++ after)
+    bytes : withBlanks w (markedDigits before n after v) ≡ before ++ (digitsOf n v ++ after)
     digits : Each Digit (digitsOf n v)
     worth : value (digitsOf n v) ≡ v
 
-  marked-held : (v : ℕ) → Sound (withBlanks w (marked before n after v)) → Held v
-  unfolding marked
+  marked-held : (v : ℕ) → Sound (withBlanks w (markedDigits before n after v)) → Held v
+  unfolding markedDigits
   marked-held v s = split (ltb v (10 ^ n)) fits (λ e. unsound w (rw e at s))
     where
       fits : ltb v (10 ^ n) ≡ true → Held v
@@ -269,9 +269,9 @@ module _ {A : Type 0} (w : ℕ) (absent : A) (bytes : A → List ℕ) (none : by
   absent-there : of (withBlanks w (bytes absent)) ≡ absent
   absent-there = ap (λ (x : List ℕ). of (withBlanks w x)) none ∙ ap of (with-blanks-none w) ∙ blank-of (replicate w 32) (blank-replicate w)
 
--- a field that is read as a marked number, and written again
+-- a field that is read as a number with a mark, and written again
 marked-again : {A : Type 0} (w : ℕ) (bytes : A → List ℕ) (of : List ℕ → A) (before : List ℕ) (n : ℕ) (after f h : List ℕ) (v : A)
-    → length before + (n + length after) ≡ w → Digits n h → f ≡ before ++ (h ++ after) → of f ≡ v → bytes v ≡ marked before n after (value h) → withBlanks w (bytes (of f)) ≡ f
+    → length before + (n + length after) ≡ w → Digits n h → f ≡ before ++ (h ++ after) → of f ≡ v → bytes v ≡ markedDigits before n after (value h) → withBlanks w (bytes (of f)) ≡ f
 marked-again {A} w bytes of before n after f h v wide d e q b =
     let m : bytes (of f) ≡ f = ap bytes q ∙ b ∙ marked-back before n after h d ∙ sym e in
     let l : length f ≡ w = ap length e ∙ length-append before (h ++ after) ∙ ap (λ (k : ℕ). length before + k) (length-append h after ∙ ap (λ (k : ℕ). k + length after) (d .0)) ∙ wide in
@@ -456,7 +456,7 @@ distance-there holding (distance.Miles v) s g =
     ap (distanceOf holding) (h .0) ∙ distance-miles holding (digitsOf 4 (v .0)) (digits-length 4 (v .0), h .1 .digits) ∙ ap (λ (k : ℕ). distance.Miles (record { 0 = k })) (h .1 .worth)
 distance-there holding (distance.Minutes v) s g =
     let h = marked-held 4 (84 ∷ []) 3 [] refl (v .0) s in
-    let t : holding ≡ true = minutes-on holding (withBlanks 4 (marked (84 ∷ []) 3 [] (v .0))) _ (h .bytes) g in
+    let t : holding ≡ true = minutes-on holding (withBlanks 4 (markedDigits (84 ∷ []) 3 [] (v .0))) _ (h .bytes) g in
     ap (distanceOf holding) (h .bytes)
     ∙ ap (λ (b : Bool). distanceOf b (84 ∷ (digitsOf 3 (v .0) ++ []))) t
     ∙ distance-minutes (digitsOf 3 (v .0)) (digits-length 3 (v .0))

@@ -11,8 +11,8 @@ digitsOf zero v = []
 digitsOf (suc n) v = (48 + v / 10 ^ n) ∷ digitsOf n (v % 10 ^ n)
 
 -- n digits, with a mark before them or behind them
-unfoldable pub marked : List ℕ → ℕ → List ℕ → ℕ → List ℕ
-marked before n after v = orZero (ltb v (10 ^ n)) (before ++ (digitsOf n v ++ after))
+unfoldable pub markedDigits : List ℕ → ℕ → List ℕ → ℕ → List ℕ
+markedDigits before n after v = orZero (ltb v (10 ^ n)) (before ++ (digitsOf n v ++ after))
 
 abbrev pub numeral : ℕ → ℕ → List ℕ
-numeral n v = marked [] n [] v
+numeral n v = markedDigits [] n [] v

@@ -11,7 +11,7 @@ use lib.ListN.{getD}
 use Rattle.slices.specs.Part.{part, blank}
 use Rattle.columns.specs.Patterns.{codes}
 use Rattle.digits.specs.Digits.{value}
-use Rattle.fields.specs.Numbers.{marked, numeral}
+use Rattle.fields.specs.Numbers.{markedDigits, numeral}
 use Rattle.fields.specs.declared.quantities.Rnp.{Rnp}
 use Rattle.fields.specs.declared.quantities.Rnp.the-variants as rnp
 use Rattle.fields.specs.declared.quantities.ArcRadius.{ArcRadius}
@@ -94,7 +94,7 @@ unfoldable pub courseBytes : Course → List ℕ
 unfolding codes
 courseBytes course.Absent = []
 courseBytes (course.Magnetic v) = numeral 4 (v .0)
-courseBytes (course.True v) = marked [] 3 (codes "T") (v .0)
+courseBytes (course.True v) = markedDigits [] 3 (codes "T") (v .0)
 
 -- tenths of a mile; on a holding T and tenths of a minute
 unfoldable pub distanceOf : Bool → List ℕ → Distance
@@ -107,7 +107,7 @@ unfoldable pub distanceBytes : Distance → List ℕ
 unfolding codes
 distanceBytes distance.Absent = []
 distanceBytes (distance.Miles v) = numeral 4 (v .0)
-distanceBytes (distance.Minutes v) = marked (codes "T") 3 [] (v .0)
+distanceBytes (distance.Minutes v) = markedDigits (codes "T") 3 [] (v .0)
 
 -- feet; FL and a flight level; minus and feet below
 unfoldable pub altitudeOf : List ℕ → Altitude
@@ -121,8 +121,8 @@ unfoldable pub altitudeBytes : Altitude → List ℕ
 unfolding codes
 altitudeBytes altitude.Absent = []
 altitudeBytes (altitude.Feet v) = numeral 5 (v .0)
-altitudeBytes (altitude.Below v) = marked (codes "-") 4 [] (v .0)
-altitudeBytes (altitude.Level v) = marked (codes "FL") 3 [] (v .0)
+altitudeBytes (altitude.Below v) = markedDigits (codes "-") 4 [] (v .0)
+altitudeBytes (altitude.Level v) = markedDigits (codes "FL") 3 [] (v .0)
 
 -- minus and hundredths of a degree
 unfoldable pub verticalAngleOf : List ℕ → VerticalAngle
@@ -131,7 +131,7 @@ verticalAngleOf f = cond (blank f) verticalAngle.Absent (verticalAngle.Down (rec
 unfoldable pub verticalAngleBytes : VerticalAngle → List ℕ
 unfolding codes
 verticalAngleBytes verticalAngle.Absent = []
-verticalAngleBytes (verticalAngle.Down v) = marked (codes "-") 3 [] (v .0)
+verticalAngleBytes (verticalAngle.Down v) = markedDigits (codes "-") 3 [] (v .0)
 
 -- ---- what an altitude is worth
 

@@ -9,7 +9,7 @@ ghost use Rattle.slices.specs.Part.{part};
 ghost use Rattle.digits.specs.Digits.{value};
 ghost use Rattle.columns.specs.Fields.{bytesIn};
 ghost use Rattle.fields.specs.Pieces.{fill};
-ghost use Rattle.fields.specs.Numbers.{digitsOf, marked};
+ghost use Rattle.fields.specs.Numbers.{digitsOf, markedDigits};
 use columns::field::Field;
 use digits::number;
 use slices::copy;
@@ -53,7 +53,7 @@ pub(crate) fn put_marked(
     n: u32,
 )
     requires { ⌜ (1 ≤ field .0) × (field .0 ≤ 132) × (length (now before) ≤ 2) × (width ≤ 6) ⌝ }
-    ensures { λ _. ⌜ now (out .exit) ≡ fill field (marked (now (before .entry)) width (now (after .entry)) n) (now (out .entry)) ⌝ }
+    ensures { λ _. ⌜ now (out .exit) ≡ fill field (markedDigits (now (before .entry)) width (now (after .entry)) n) (now (out .entry)) ⌝ }
 {
     let at = field.0 - 1;
     if n < power(width) {
@@ -69,7 +69,7 @@ pub(crate) fn put_marked(
 // Puts a number of as many digits as the field has columns.
 pub(crate) fn put_number(out: &mut [u8], field: Field, n: u32)
     requires { ⌜ (1 ≤ field .0) × (field .0 ≤ 132) × (field .1 ≤ 6) ⌝ }
-    ensures { λ _. ⌜ now (out .exit) ≡ fill field (marked [] (field .1) [] n) (now (out .entry)) ⌝ }
+    ensures { λ _. ⌜ now (out .exit) ≡ fill field (markedDigits [] (field .1) [] n) (now (out .entry)) ⌝ }
 {
     put_marked(&mut *out, field, b"", field.1, b"", n);
 }

@@ -9,7 +9,7 @@ use native.Mathlib.Decide.{ℕ-discrete, decLe}
 use native.Mathlib.Omega.{arith}
 use Rattle.history.proofs.Cases.{ite-case, cond-case}
 use Rattle.history.specs.Format.{Format}
-use Rattle.history.specs.Apply.{Correction, Touches, touches?, routeOf}
+use Rattle.history.specs.Apply.{Correction, Touches, touches?, routeOfOp}
 use Rattle.history.specs.Sets.{Numbers, _∈_, _⊆_, add, Log, lastOn, addRelied, closureTo}
 use Rattle.history.proofs.Numbered.{ClosedTo}
 
@@ -54,7 +54,7 @@ module _ (F : Format) where
   unfolding addRelied
   relied-above log n [] T m l h = h
   relied-above log n (o ∷ c) T m l h =
-      ⊎-elim (λ e. absurd (omega (arith, last-within log (routeOf F o) n))) (λ t. t) (add-only _ T m (relied-above log n c _ m l h))
+      ⊎-elim (λ e. absurd (omega (arith, last-within log (routeOfOp F o) n))) (λ t. t) (add-only _ T m (relied-above log n c _ m l h))
 
   relied-least : (log : Log F) (n : ℕ) (c : Correction F) (T S : Numbers)
       → ((ρ : Route) → Touches F c ρ → lastOn F log ρ n ∈ S) → T ⊆ S → addRelied F log n c T ⊆ S

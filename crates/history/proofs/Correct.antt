@@ -10,7 +10,7 @@ use Rattle.history.proofs.Cases.{Every, every-then, every-some, cond-so
 use Rattle.slices.proofs.Cases.{and-left, and-right}
 use Rattle.history.proofs.Local.{own-apply, other-apply, rising-apply}
 use Rattle.history.specs.Format.{Format, File, own, Rising}
-use Rattle.history.specs.Apply.{Op, Correction, routeOf, apply, applyAll, Touches, touchedAccepted, correct}
+use Rattle.history.specs.Apply.{Op, Correction, routeOfOp, apply, applyAll, Touches, touchedAccepted, correct}
 
 module _ (F : Format) where
   open Format F using (Record, Route, accepts, route?)
@@ -31,22 +31,22 @@ module _ (F : Format) where
   abbrev pub Agree : (Route → Type 0) → File F → File F → Type 0
   Agree R f g = (ρ : Route) → R ρ → own F ρ f ≡ own F ρ g
 
-  agree-apply : (R : Route → Type 0) (o : Op Record) (f g f₁ : File F) → Rising F f → Rising F g → R (routeOf F o) → Agree R f g
+  agree-apply : (R : Route → Type 0) (o : Op Record) (f g f₁ : File F) → Rising F f → Rising F g → R (routeOfOp F o) → Agree R f g
       → apply F o f ≡ some f₁ → (g₁ : File F) × (apply F o g ≡ some g₁) × Agree R f₁ g₁
   agree-apply R o f g f₁ rf rg i a h = (
     w .0,
     w .1,
-    λ ρ r. by-cases (route? (routeOf F o) ρ)
+    λ ρ r. by-cases (route? (routeOfOp F o) ρ)
         (λ e. subst (λ σ. own F σ f₁ ≡ own F σ (w .0)) e (sym (w .2)))
         (λ d. every-some (λ k. own F ρ k ≡ own F ρ f) _ f₁ (other-apply F ρ o f d) h ∙ a ρ r
         ∙ sym (every-some (λ k. own F ρ k ≡ own F ρ g) _ (w .0) (other-apply F ρ o g d) (w .1))),
   )
     where
-      same : Option·map (own F (routeOf F o)) (apply F o g) ≡ some (own F (routeOf F o) f₁)
-      same = own-apply F o g rg ∙ ap (apply F o) (sym (a _ i)) ∙ sym (own-apply F o f rf) ∙ ap (Option·map (own F (routeOf F o))) h
+      same : Option·map (own F (routeOfOp F o)) (apply F o g) ≡ some (own F (routeOfOp F o) f₁)
+      same = own-apply F o g rg ∙ ap (apply F o) (sym (a _ i)) ∙ sym (own-apply F o f rf) ∙ ap (Option·map (own F (routeOfOp F o))) h
 
-      w : (g₁ : File F) × (apply F o g ≡ some g₁) × (own F (routeOf F o) g₁ ≡ own F (routeOf F o) f₁)
-      w = map-eq-some-iff (own F (routeOf F o)) (apply F o g) .0 same
+      w : (g₁ : File F) × (apply F o g ≡ some g₁) × (own F (routeOfOp F o) g₁ ≡ own F (routeOfOp F o) f₁)
+      w = map-eq-some-iff (own F (routeOfOp F o)) (apply F o g) .0 same
 
   agree-all : (R : Route → Type 0) (c : Correction F) (f g f₁ : File F) → Rising F f → Rising F g → ((ρ : Route) → Touches F c ρ → R ρ) → Agree R f g
       → applyAll F c f ≡ some f₁ → (g₁ : File F) × (applyAll F c g ≡ some g₁) × Agree R f₁ g₁
@@ -77,8 +77,8 @@ module _ (F : Format) where
 
   touched-at : (c : Correction F) (f : File F) (ρ : Route) → touchedAccepted F c f ≡ true → Touches F c ρ → accepts (own F ρ f) ≡ true
   unfolding touchedAccepted
-  touched-at (o ∷ c) f ρ h (inl e) = subst (λ σ. accepts (own F σ f) ≡ true) e (and-left (accepts (own F (routeOf F o) f)) (touchedAccepted F c f) h)
-  touched-at (o ∷ c) f ρ h (inr t) = touched-at c f ρ (and-right (accepts (own F (routeOf F o) f)) (touchedAccepted F c f) h) t
+  touched-at (o ∷ c) f ρ h (inl e) = subst (λ σ. accepts (own F σ f) ≡ true) e (and-left (accepts (own F (routeOfOp F o) f)) (touchedAccepted F c f) h)
+  touched-at (o ∷ c) f ρ h (inr t) = touched-at c f ρ (and-right (accepts (own F (routeOfOp F o) f)) (touchedAccepted F c f) h) t
 
   -- A correction leaves the routes that it does not touch alone.
   pub other-correct : (ρ : Route) (c : Correction F) (f f₁ : File F) → ¬ Touches F c ρ → correct F c f ≡ some f₁ → own F ρ f₁ ≡ own F ρ f

@@ -7,7 +7,7 @@ use mathlib.Core.Option.{Option, none, some, Option·map}
 use mathlib.Core.Logic.{ite, if-pos, if-neg, by-cases}
 use Rattle.history.proofs.Cases.{ite-case, Every}
 use Rattle.history.specs.Format.{Format, File, own, Above, Rising}
-use Rattle.history.specs.Apply.{Op, take-out, put-in, routeOf, takenOut, putIn, apply}
+use Rattle.history.specs.Apply.{Op, take-out, put-in, routeOfOp, takenOut, putIn, apply}
 
 module _ (F : Format) where
   open Format F using (Record, Place, Route, place, route, same?, route?, Before, before?, irreflexive, transitive, connected, route-by-place)
@@ -158,14 +158,14 @@ module _ (F : Format) where
       (λ _. ite-case (Every (λ g. own F ρ g ≡ own F ρ (x ∷ f))) (before? (place x) (place r)) (λ _. other-push ρ x f (putIn F r f) (other-put ρ r f d)) (λ _. tt))
 
   -- whether a line applies, and what it makes of its own route, is seen from that route alone
-  pub own-apply : (o : Op Record) (f : File F) → Rising F f → Option·map (own F (routeOf F o)) (apply F o f) ≡ apply F o (own F (routeOf F o) f)
-  unfolding apply routeOf
+  pub own-apply : (o : Op Record) (f : File F) → Rising F f → Option·map (own F (routeOfOp F o)) (apply F o f) ≡ apply F o (own F (routeOfOp F o) f)
+  unfolding apply routeOfOp
   own-apply (take-out r) f a = own-taken r f
   own-apply (put-in r) f a = own-put r f a
 
   -- a line leaves the other routes alone
-  pub other-apply : (ρ : Route) (o : Op Record) (f : File F) → ¬ (routeOf F o ≡ ρ) → Every (λ g. own F ρ g ≡ own F ρ f) (apply F o f)
-  unfolding apply routeOf
+  pub other-apply : (ρ : Route) (o : Op Record) (f : File F) → ¬ (routeOfOp F o ≡ ρ) → Every (λ g. own F ρ g ≡ own F ρ f) (apply F o f)
+  unfolding apply routeOfOp
   other-apply ρ (take-out r) f d = other-taken ρ r f d
   other-apply ρ (put-in r) f d = other-put ρ r f d
 

@@ -10,7 +10,7 @@ use Prim.Native.Nat.{ℕ}
 use native.Mathlib.Omega.{arith}
 use lib.ListN.{length}
 use Rattle.history.specs.Format.{Format, File, own, Rising, Accepted}
-use Rattle.history.specs.Apply.{Op, Correction, routeOf, apply, Touches, correct, run}
+use Rattle.history.specs.Apply.{Op, Correction, routeOfOp, apply, Touches, correct, run}
 use Rattle.history.specs.Sets.{Numbers, _∈_, numbered, only, Closed, ClosedPlainly, closure}
 use Rattle.history.specs.Demand.{Fewest, Carried}
 use Rattle.history.proofs.Cases.{every-some}
@@ -47,11 +47,11 @@ module _ (F : Format) where
   -- ---- a correction concerns its own routes alone
 
   -- A line that applies leaves the records of every other route as they were.
-  pub others-stay : (o : Op Record) (f g : File F) (ρ : Route) → ¬ (routeOf F o ≡ ρ) → apply F o f ≡ some g → own F ρ g ≡ own F ρ f
+  pub others-stay : (o : Op Record) (f g : File F) (ρ : Route) → ¬ (routeOfOp F o ≡ ρ) → apply F o f ≡ some g → own F ρ g ≡ own F ρ f
   others-stay o f g ρ d h = every-some (λ e. own F ρ e ≡ own F ρ f) (apply F o f) g (other-apply F ρ o f d) h
 
   -- Whether it applies, and what it makes of its own route, is seen from the records of that route alone.
-  pub route-alone : (o : Op Record) (f : File F) → Rising F f → Option·map (own F (routeOf F o)) (apply F o f) ≡ apply F o (own F (routeOf F o) f)
+  pub route-alone : (o : Op Record) (f : File F) → Rising F f → Option·map (own F (routeOfOp F o)) (apply F o f) ≡ apply F o (own F (routeOfOp F o) f)
   route-alone o f a = own-apply F o f a
 
   -- The same of a whole correction and the check after it: routes that it does not touch stay,

@@ -11,7 +11,7 @@ use lib.Dec.{leb}
 use lib.ListN.{length, take}
 use Rattle.slices.specs.Order.{order, equal}
 use Rattle.history.specs.Format.{Format, own}
-use Rattle.history.specs.Apply.{Op, take-out, put-in, routeOf, takenOut, putIn, apply, applyAll, touches?, touchedAccepted, correct, run}
+use Rattle.history.specs.Apply.{Op, take-out, put-in, routeOfOp, takenOut, putIn, apply, applyAll, touches?, touchedAccepted, correct, run}
 use Rattle.history.specs.Sets.{Numbers, add, numbered, lastOn, addRelied, closureTo, closure, chooseFrom, choose}
 use Rattle.history.specs.Bytes.{ofBytes, same?, before?}
 
@@ -41,26 +41,26 @@ abbrev nothing : Numbers
 nothing _ = false
 
 whole : run one frozen log ≡ some ((80 ∷ 3 ∷ []) ∷ (81 ∷ 4 ∷ []) ∷ (82 ∷ 5 ∷ []) ∷ [])
-unfolding run correct applyAll apply takenOut putIn touchedAccepted own routeOf same? before? order equal bind
+unfolding run correct applyAll apply takenOut putIn touchedAccepted own routeOfOp same? before? order equal bind
 whole = refl
 
 -- wanted 5 takes 1, 3, 5
 five : members (closure one log (add 5 nothing)) ≡ members (add 1 (add 3 (add 5 nothing)))
-unfolding closureTo addRelied lastOn touches? routeOf add numbered same? order equal ℕ-discrete
+unfolding closureTo addRelied lastOn touches? routeOfOp add numbered same? order equal ℕ-discrete
 five = refl
 
 five-makes : run one frozen (choose one (closure one log (add 5 nothing)) log) ≡ some ((80 ∷ 3 ∷ []) ∷ (81 ∷ 0 ∷ []) ∷ (82 ∷ 5 ∷ []) ∷ [])
-unfolding chooseFrom closureTo addRelied lastOn touches? routeOf add numbered run correct applyAll apply takenOut putIn touchedAccepted own same? before? order equal bind ℕ-discrete
+unfolding chooseFrom closureTo addRelied lastOn touches? routeOfOp add numbered run correct applyAll apply takenOut putIn touchedAccepted own same? before? order equal bind ℕ-discrete
 five-makes = refl
 
 -- wanted 4, 4 takes 2, 4
 four : members (closure one log (add 4 (add 4 nothing))) ≡ members (add 2 (add 4 nothing))
-unfolding closureTo addRelied lastOn touches? routeOf add numbered same? order equal ℕ-discrete
+unfolding closureTo addRelied lastOn touches? routeOfOp add numbered same? order equal ℕ-discrete
 four = refl
 
 -- nothing wanted takes none
 none-wanted : members (closure one log nothing) ≡ members nothing
-unfolding closureTo addRelied lastOn touches? routeOf add numbered same? order equal ℕ-discrete
+unfolding closureTo addRelied lastOn touches? routeOfOp add numbered same? order equal ℕ-discrete
 none-wanted = refl
 
 -- a place that is taken, a record that is not there, and a route that is refused

@@ -17,9 +17,9 @@ module _ (F : Format) where
   abbrev pub Correction : Type 0
   Correction = List (Op Record)
 
-  unfoldable pub routeOf : Op Record → Route
-  routeOf (take-out r) = route r
-  routeOf (put-in r) = route r
+  unfoldable pub routeOfOp : Op Record → Route
+  routeOfOp (take-out r) = route r
+  routeOfOp (put-in r) = route r
 
   -- the file without this very record; none where it does not have it
   unfoldable pub takenOut : Record → File F → Option (File F)
@@ -44,13 +44,13 @@ module _ (F : Format) where
   -- "A correction touches the routes of its D and A lines; it may have none."
   abbrev pub Touches : Correction → Route → Type 0
   Touches [] ρ = ⊥
-  Touches (o ∷ c) ρ = (routeOf o ≡ ρ) ⊎ Touches c ρ
+  Touches (o ∷ c) ρ = (routeOfOp o ≡ ρ) ⊎ Touches c ρ
 
   unfoldable pub touches? : (c : Correction) (ρ : Route) → Dec (Touches c ρ)
   touches? [] ρ = no (λ x. x)
-  touches? (o ∷ c) ρ = either (route? (routeOf o) ρ) (touches? c ρ)
+  touches? (o ∷ c) ρ = either (route? (routeOfOp o) ρ) (touches? c ρ)
     where
-      either : Dec (routeOf o ≡ ρ) → Dec (Touches c ρ) → Dec (Touches (o ∷ c) ρ)
+      either : Dec (routeOfOp o ≡ ρ) → Dec (Touches c ρ) → Dec (Touches (o ∷ c) ρ)
       either (yes h) d = yes (inl h)
       either (no h) (yes t) = yes (inr t)
       either (no h) (no t) = no (elim [ inl x ↦ h x | inr x ↦ t x ])
@@ -58,7 +58,7 @@ module _ (F : Format) where
   -- every touched route is accepted
   unfoldable pub touchedAccepted : Correction → File F → Bool
   touchedAccepted [] f = true
-  touchedAccepted (o ∷ c) f = accepts (own F (routeOf o) f) && touchedAccepted c f
+  touchedAccepted (o ∷ c) f = accepts (own F (routeOfOp o) f) && touchedAccepted c f
 
   -- "only the state after a whole correction is checked": none where a line does not apply or a touched route is refused
   unfoldable pub correct : Correction → File F → Option (File F)

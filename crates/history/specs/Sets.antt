@@ -8,7 +8,7 @@ use Prim.Native.Nat.{ℕ, zero, suc, _≤_}
 use native.Mathlib.Decide.{ℕ-discrete}
 use lib.ListN.{getD, length}
 use Rattle.history.specs.Format.{Format}
-use Rattle.history.specs.Apply.{Correction, routeOf, Touches, touches?}
+use Rattle.history.specs.Apply.{Correction, routeOfOp, Touches, touches?}
 
 infix 30 _∈_
 infix 30 _⊆_
@@ -59,7 +59,7 @@ module _ (F : Format) where
   -- from the last correction down to the first: one that is in the set adds what it relies on
   unfoldable pub addRelied : Log → ℕ → Correction F → Numbers → Numbers
   addRelied log n [] T = T
-  addRelied log n (o ∷ c) T = addRelied log n c (add (lastOn log (routeOf F o) n) T)
+  addRelied log n (o ∷ c) T = addRelied log n c (add (lastOn log (routeOfOp F o) n) T)
 
   unfoldable pub closureTo : Log → ℕ → Numbers → Numbers
   closureTo log zero T = T

@@ -72,8 +72,8 @@ abbrev pub written : ℕ → List ℕ → List ℕ
 written n rec = writtenBy (writing n rec) n rec
 
 -- a buffer that was lent is left with it, and the verdict is given
-abbrev pub Wrote : List ℕ → (before : List ℕ) → Verdict → (after : List ℕ) → Type 0
-Wrote rec before verdict after = (verdict ≡ writing (length before) rec) × (after ≡ written (length before) rec)
+abbrev pub RecordLeft : List ℕ → (before : List ℕ) → Verdict → (after : List ℕ) → Type 0
+RecordLeft rec before verdict after = (verdict ≡ writing (length before) rec) × (after ≡ written (length before) rec)
 
 abbrev pub writingLeg : ℕ → Leg → Verdict
 writingLeg n g = writing n (renderLeg g)

@@ -6,7 +6,7 @@ ghost use Rattle.columns.specs.Kinds.{kindOf};
 ghost use Rattle.refusals.specs.declared.Verdict.the-variants.{Refused};
 ghost use Rattle.fields.specs.Leg.{renderLeg};
 ghost use Rattle.fields.specs.Continuation.{renderContinuation};
-ghost use Rattle.parts.specs.Record.{sizeColumn, legReading, continuationReading, refusedReading, readingByKind, readingOf, Wrote};
+ghost use Rattle.parts.specs.Record.{sizeColumn, legReading, continuationReading, refusedReading, readingByKind, readingOf, RecordLeft};
 use columns::Kind;
 use fields::continuation::Continuation;
 use fields::continuation::content_of;
@@ -113,7 +113,7 @@ fn refuse(r: Refusal, out: &mut [u8]) -> Verdict
 // Writes a record that was put together, with its line feed and zeros past it: 14 where fewer than 133 bytes are lent, then 3, 4, 5, at
 // place 0. On a refusal every byte is 0.
 fn finish(rec: [u8; 132], out: &mut [u8]) -> Verdict
-    ensures { λ r. ⌜ Wrote rec (now (out .entry)) r (now (out .exit)) ⌝ }
+    ensures { λ r. ⌜ RecordLeft rec (now (out .entry)) r (now (out .exit)) ⌝ }
 {
     if out.len() < 133 {
         return refuse(Refusal::buffer_too_short(), &mut *out);
@@ -132,14 +132,14 @@ fn finish(rec: [u8; 132], out: &mut [u8]) -> Verdict
 
 // Writes the record of a leg.
 pub fn write_leg(leg: Leg, out: &mut [u8]) -> Verdict
-    ensures { λ r. ⌜ Wrote (renderLeg leg) (now (out .entry)) r (now (out .exit)) ⌝ }
+    ensures { λ r. ⌜ RecordLeft (renderLeg leg) (now (out .entry)) r (now (out .exit)) ⌝ }
 {
     finish(leg.render(), &mut *out)
 }
 
 // Writes the record of a continuation and its 83 bytes.
 pub fn write_continuation(continuation: Continuation, content: [u8; 83], out: &mut [u8]) -> Verdict
-    ensures { λ r. ⌜ Wrote (renderContinuation continuation content) (now (out .entry)) r (now (out .exit)) ⌝ }
+    ensures { λ r. ⌜ RecordLeft (renderContinuation continuation content) (now (out .entry)) r (now (out .exit)) ⌝ }
 {
     finish(continuation.render(content), &mut *out)
 }

@@ -25,7 +25,7 @@ use Rattle.routes.specs.Stages.{Seen, seen, numberAfter, awaits}
 use Rattle.routes.specs.Walk.{walked}
 use Rattle.routes.specs.Files.{fileVerdict}
 use Rattle.routes.specs.Places.{keyOf, sequenceOf, Before, Every, Rising}
-use Rattle.routes.specs.Legal.{Leg, Route, recordsOfLegs, recordsOfRoutes, numbers, RightLeg, Neighbours, Follows, RightRoute, RightRoutes, lines, LegalFile}
+use Rattle.routes.specs.Legal.{LegRecords, Route, recordsOfLegs, recordsOfRoutes, numbers, RightLeg, Neighbours, Follows, RightRoute, RightRoutes, lines, LegalFile}
 use Rattle.routes.proofs.PairLaws.{first-leg-iff, pair-iff}
 use Rattle.routes.proofs.Steps.{Next, begins, follows, continues, Rest, done, more, walked-iff}
 use Rattle.routes.proofs.PlaceLaws.{nothing-before, not-nothing, continuation-number, rising-cons}
@@ -53,10 +53,10 @@ ContinuationsAfter p b (c ∷ cs) =
     ContinuationContent c × (byteIn 39 c ≡ numberAfter (byteIn 39 b)) × (columns 1 38 p ≡ columns 1 38 c) × ContinuationsAfter p c cs
 
 -- a leg with all its continuations
-abbrev Whole : Leg → Type 0
+abbrev Whole : LegRecords → Type 0
 Whole l = LegalLeg (l .primary) × ContinuationsAfter (l .primary) (l .primary) (l .continuations)
 
-abbrev LegsAfter : List ℕ → List Leg → Type 0
+abbrev LegsAfter : List ℕ → List LegRecords → Type 0
 LegsAfter p [] = Unit {0}
 LegsAfter p (l ∷ ls) =
     Whole l × (keyOf p ≡ keyOf (l .primary)) × Before (sequenceOf p) (sequenceOf (l .primary))
@@ -70,7 +70,7 @@ RoutesAfter k (r ∷ rs) =
 
 record Parts (p b : List ℕ) (rs : List (List ℕ)) : Type 0 where
   continuations : List (List ℕ)
-  legs : List Leg
+  legs : List LegRecords
   routes : List Route
   parts : rs ≡ continuations ++ (recordsOfLegs legs ++ recordsOfRoutes routes)
   continued : ContinuationsAfter p b continuations
@@ -79,7 +79,7 @@ record Parts (p b : List ℕ) (rs : List (List ℕ)) : Type 0 where
 
 -- ---- from an accepted walk to its parts
 
-abbrev leg : List ℕ → List (List ℕ) → Leg
+abbrev leg : List ℕ → List (List ℕ) → LegRecords
 leg p cs = record { primary = p; continuations = cs }
 
 regroup : (r : List ℕ) (xs ys zs rs : List (List ℕ)) → rs ≡ xs ++ (ys ++ zs) → r ∷ rs ≡ ((r ∷ xs) ++ ys) ++ zs
@@ -144,7 +144,7 @@ continuations-then p b (c ∷ cs) rs (k, n, h, x) f =
     (rest-at (ap (λ (l : List ℕ). seen l c) (sym (after-continuation p c (continuation-kind c k)))) (continuations-then p c cs rs x f))
 
 -- a primary that comes next, and its continuations
-leg-then : (s : Seen) (l : Leg) (rs : List (List ℕ)) → Whole l → (kindOf (l .primary) ≡ Primary → Next s (l .primary)) → After (l .primary) rs
+leg-then : (s : Seen) (l : LegRecords) (rs : List (List ℕ)) → Whole l → (kindOf (l .primary) ≡ Primary → Next s (l .primary)) → After (l .primary) rs
     → Rest s ((l .primary ∷ l .continuations) ++ rs)
 leg-then s l rs (w, x) n f =
     let k = primary-kind (l .primary) (w .content) in
@@ -152,7 +152,7 @@ leg-then s l rs (w, x) n f =
     (rest-at (ap (λ (y : List ℕ). seen y (l .primary)) (sym (after-primary (s .primary) (l .primary) k))) (continuations-then (l .primary) (l .primary) (l .continuations) rs x f))
 
 -- the rest of a route, then what follows after any primary of it
-legs-then : (p : List ℕ) (ls : List Leg) (rs : List (List ℕ)) → LegsAfter p ls → ((q : List ℕ) → keyOf p ≡ keyOf q → After q rs) → After p (recordsOfLegs ls ++ rs)
+legs-then : (p : List ℕ) (ls : List LegRecords) (rs : List (List ℕ)) → LegsAfter p ls → ((q : List ℕ) → keyOf p ≡ keyOf q → After q rs) → After p (recordsOfLegs ls ++ rs)
 legs-then p [] rs x f b a = f p refl b a
 legs-then p (l ∷ ls) rs (w, k, q, u, x) f b a =
     rw (append-assoc (l .primary ∷ l .continuations) (recordsOfLegs ls) rs)
@@ -252,35 +252,35 @@ leg-to p [] l x = record {
   content = tt;
   heads = tt;
   numbered = refl;
-  marked = (λ e. absurd (false≢true (sym x ∙ one-awaits p e)), λ h. absurd (omega arith));
+  announced = (λ e. absurd (false≢true (sym x ∙ one-awaits p e)), λ h. absurd (omega arith));
 }
 leg-to p (c ∷ cs) l x =
     let one = first-continued p c l (x .0) (x .1) in
     let i = run-to p p numbers (c ∷ cs) (subst (λ (y : ℕ). Run y numbers) (sym one) numbers-run) x in
-    record { legal = l; content = i .0; heads = i .1; numbered = i .2; marked = (λ e. omega arith, λ h. one) }
+    record { legal = l; content = i .0; heads = i .1; numbered = i .2; announced = (λ e. omega arith, λ h. one) }
 
 leg-from : (p : List ℕ) (cs : List (List ℕ)) → RightLeg (leg p cs) → ContinuationsAfter p p cs
-leg-from p [] r = none-awaits p (λ e. let h : 1 ≤ 0 = r .marked .0 e in omega arith)
+leg-from p [] r = none-awaits p (λ e. let h : 1 ≤ 0 = r .announced .0 e in omega arith)
 leg-from p (c ∷ cs) r =
-    run-from p p numbers (c ∷ cs) (subst (λ (y : ℕ). Run y numbers) (sym (r .marked .1 (omega arith))) numbers-run) (r .content) (r .heads) (r .numbered) (λ e. absurd (omega arith))
+    run-from p p numbers (c ∷ cs) (subst (λ (y : ℕ). Run y numbers) (sym (r .announced .1 (omega arith))) numbers-run) (r .content) (r .heads) (r .numbered) (λ e. absurd (omega arith))
 
-whole-iff : (l : Leg) → Whole l ↔ RightLeg l
+whole-iff : (l : LegRecords) → Whole l ↔ RightLeg l
 whole-iff l = (λ (w, x). leg-to (l .primary) (l .continuations) w x, λ r. (r .legal, leg-from (l .primary) (l .continuations) r))
 
 -- ---- one route
 
-every-same : (k m : List ℕ) (ls : List Leg) → k ≡ m → Every (λ l. m ≡ keyOf (l .primary)) ls → Every (λ l. k ≡ keyOf (l .primary)) ls
+every-same : (k m : List ℕ) (ls : List LegRecords) → k ≡ m → Every (λ l. m ≡ keyOf (l .primary)) ls → Every (λ l. k ≡ keyOf (l .primary)) ls
 every-same k m [] e x = tt
 every-same k m (l ∷ ls) e x = (e ∙ x .0, every-same k m ls e (x .1))
 
 -- the other legs of a route
-record Others (f : Leg) (ls : List Leg) : Type 0 where
+record Others (f : LegRecords) (ls : List LegRecords) : Type 0 where
   legs : Every RightLeg ls
   together : Every (λ l. keyOf (f .primary) ≡ keyOf (l .primary)) ls
   rising : Rising (map (λ l. sequenceOf (l .primary)) (f ∷ ls))
   pairs : Neighbours Follows (f ∷ ls)
 
-legs-to : (f : Leg) (ls : List Leg) → LegalLeg (f .primary) → LegsAfter (f .primary) ls → Others f ls
+legs-to : (f : LegRecords) (ls : List LegRecords) → LegalLeg (f .primary) → LegsAfter (f .primary) ls → Others f ls
 legs-to f [] h x = record { legs = tt; together = tt; rising = (tt, tt); pairs = tt }
 legs-to f (l ∷ ls) h (w, k, q, u, x) =
     let i = legs-to l ls (w .0) x in
@@ -291,7 +291,7 @@ legs-to f (l ∷ ls) h (w, k, q, u, x) =
       pairs = (pair-iff f l h (w .0) .0 u, i .pairs);
     }
 
-legs-from : (f : Leg) (ls : List Leg) → LegalLeg (f .primary) → Others f ls → LegsAfter (f .primary) ls
+legs-from : (f : LegRecords) (ls : List LegRecords) → LegalLeg (f .primary) → Others f ls → LegsAfter (f .primary) ls
 legs-from f [] h o = tt
 legs-from f (l ∷ ls) h o = (
   whole-iff l .1 (o .legs .0),
@@ -342,7 +342,7 @@ module _ (rs : List (List ℕ)) where
   parts-whole : Parts [] [] rs → (routes : List Route) × (rs ≡ recordsOfRoutes routes) × RightRoutes routes
   parts-whole x = by (x .continuations) (x .legs) (x .parts) (x .continued) (x .followed)
     where
-      by : (cs : List (List ℕ)) (ls : List Leg) → rs ≡ cs ++ (recordsOfLegs ls ++ recordsOfRoutes (x .routes)) → ContinuationsAfter [] [] cs → LegsAfter [] ls
+      by : (cs : List (List ℕ)) (ls : List LegRecords) → rs ≡ cs ++ (recordsOfLegs ls ++ recordsOfRoutes (x .routes)) → ContinuationsAfter [] [] cs → LegsAfter [] ls
           → (routes : List Route) × (rs ≡ recordsOfRoutes routes) × RightRoutes routes
       by [] [] e c l = let i = routes-to (keyOf []) (x .routes) (x .later) in (x .routes, e, record { each = i .0; rising = i .1 .1 })
       by [] (l ∷ ls) e c x = absurd (not-nothing (l .primary) (inl (x .0 .0)) (x .1))

@@ -18,7 +18,7 @@ use Rattle.leg.specs.declared.terminator.Terminator.{Terminator}
 use Rattle.leg.specs.declared.terminator.Terminator.the-variants.{Af, Ca, Cd, Cf, Ci, Cr, Df, Fa, Fc, Fd, Fm, Ha, Hf, Hm, If, Pi, Rf, Tf, Va, Vd, Vi, Vm, Vr}
 use Rattle.leg.specs.Legal.{LegalLeg}
 use Rattle.leg.proofs.Legality.{named-back}
-use Rattle.routes.specs.Legal.{Leg, Follows}
+use Rattle.routes.specs.Legal.{LegRecords, Follows}
 use Rattle.routes.specs.Pairs.{onlyFirst, neverFirst, followsFix, terminatorIn, firstLeg, pair}
 
 -- the code's table
@@ -93,7 +93,7 @@ unfolding firstLeg neverFirst
 first-leg-iff rec l = not-iff (neverFirst (terminatorIn rec)) (letters-iff rec l (texts ("TF" ∷ "RF" ∷ [])))
 
 -- a legal leg m may follow l exactly when it is not IF and, if it is one of those that follow a fix, l is one of those that end at one
-pub pair-iff : (l m : Leg) → LegalLeg (l .primary) → LegalLeg (m .primary)
+pub pair-iff : (l m : LegRecords) → LegalLeg (l .primary) → LegalLeg (m .primary)
     → (pair (terminatorIn (l .primary)) (terminatorIn (m .primary)) ≡ true) ↔ Follows l m
 unfolding pair onlyFirst followsFix endsAtFix
 pair-iff l m p q =

@@ -15,16 +15,16 @@ use Rattle.leg.specs.Legal.{LegalLeg}
 use Rattle.routes.specs.Places.{keyOf, sequenceOf, Every, Rising}
 
 -- a leg is a primary record and its continuations; a route has one leg or more
-pub record Leg : Type 0 where
+pub record LegRecords : Type 0 where
   pub primary : List ℕ
   pub continuations : List (List ℕ)
 
 pub record Route : Type 0 where
-  pub first : Leg
-  pub others : List Leg
+  pub first : LegRecords
+  pub others : List LegRecords
 
 -- their records, in order
-abbrev pub recordsOfLegs : List Leg → List (List ℕ)
+abbrev pub recordsOfLegs : List LegRecords → List (List ℕ)
 recordsOfLegs [] = []
 recordsOfLegs (l ∷ ls) = (l .primary ∷ l .continuations) ++ recordsOfLegs ls
 
@@ -36,12 +36,12 @@ recordsOfRoutes (r ∷ rs) = recordsOfLegs (r .first ∷ r .others) ++ recordsOf
 unfoldable pub numbers : List ℕ
 numbers = codes "23456789ABCDEFGHIJKLMNOPQRSTUVWXYZ"
 
-pub record RightLeg (l : Leg) : Type 0 where
+pub record RightLeg (l : LegRecords) : Type 0 where
   pub legal : LegalLeg (l .primary)
   pub content : Every ContinuationContent (l .continuations)
   pub heads : Every (λ c. columns 1 38 (l .primary) ≡ columns 1 38 c) (l .continuations)
   pub numbered : map (byteIn 39) (l .continuations) ≡ take (length (l .continuations)) numbers
-  pub marked : (byteIn 39 (l .primary) ≡ code "1") ↔ (1 ≤ length (l .continuations))
+  pub announced : (byteIn 39 (l .primary) ≡ code "1") ↔ (1 ≤ length (l .continuations))
 
 -- of each two neighbours
 abbrev pub Neighbours : {A : Type 0} → (A → A → Type 0) → List A → Type 0
@@ -50,16 +50,16 @@ Neighbours P (x ∷ []) = Unit {0}
 Neighbours P (x ∷ y ∷ ys) = P x y × Neighbours P (y ∷ ys)
 
 -- the leg's terminator is one of these
-abbrev pub FlownAs : List String → Leg → Type 0
+abbrev pub FlownAs : List String → LegRecords → Type 0
 FlownAs names l = OneOf names (columns 48 49 (l .primary))
 
 -- "TF and RF are never first."
-abbrev pub MayBegin : Leg → Type 0
+abbrev pub MayBegin : LegRecords → Type 0
 MayBegin l = FlownAs ("TF" ∷ "RF" ∷ []) l → ⊥
 
 -- "IF is only the first leg of a route." "TF, RF, HA, HF, HM, PI, FA, FC, FD and FM, when not first, follow one of IF, TF, CF, DF, AF, RF,
 -- HA, HF, HM. All other pairs stand."
-abbrev pub Follows : Leg → Leg → Type 0
+abbrev pub Follows : LegRecords → LegRecords → Type 0
 Follows l m =
     (FlownAs ("IF" ∷ []) m → ⊥)
     × (FlownAs ("TF" ∷ "RF" ∷ "HA" ∷ "HF" ∷ "HM" ∷ "PI" ∷ "FA" ∷ "FC" ∷ "FD" ∷ "FM" ∷ []) m

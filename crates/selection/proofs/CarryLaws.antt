@@ -36,7 +36,7 @@ use Rattle.selection.specs.Pick.{
   wantedStage,
   everything,
   membersFrom,
-  listed,
+  membersAs,
   Pick,
   refusedBy,
   picked,
@@ -235,10 +235,10 @@ module _ (f l : List ℕ) (T : Numbers) (index : Index) (r : Reads l index) {s :
   unfolding here ns
   carry-refused v q = q ∙ sym (ran-refused ns here (sym (ap (λ (y : Ran). y .verdict) was) ∙ v))
 
-  pub carry-stands : {m : Members} → x .verdict ≡ Accepted → m ≡ listed (membersFrom T 1 (index .corrections))
+  pub carry-stands : {m : Members} → x .verdict ≡ Accepted → m ≡ membersAs (membersFrom T 1 (index .corrections))
       → record { verdict = Accepted; count = m .count; taken = m .at; records = x .records }
       ≡ pickedAs (ranFirst (carried f l T (index .corrections) (entriesFrom index 0 (index .count))) (picked (membersFrom T 1 (index .corrections))))
-  unfolding listed here ns
+  unfolding membersAs here ns
   carry-stands v a =
       ap₂ (λ (y : Members) (z : Sources). record { verdict = Accepted; count = y .count; taken = y .at; records = z }) a (ap (λ (y : Ran). y .records) was)
       ∙ ran-picked ns here (sym (ap (λ (y : Ran). y .verdict) was) ∙ v)

@@ -13,7 +13,7 @@ use borrow.Author.Tests.{lt-ltb, le-ltb}
 use Rattle.slices.specs.Order.{equal}
 use Rattle.slices.proofs.OrderLaws.{equal-iff}
 use Rattle.routes.specs.Places.{keyOf}
-use Rattle.history.specs.Apply.{take-out, put-in, routeOf, Touches, touches?}
+use Rattle.history.specs.Apply.{take-out, put-in, routeOfOp, Touches, touches?}
 use Rattle.history.specs.Sets.{numbered, lastOn}
 use Rattle.corrections.specs.Reading.{Entry}
 use Rattle.applying.specs.Apply.{recordOfLine}
@@ -26,11 +26,11 @@ module _ (f l : List ℕ) where
   routeIn e = keyOf (recordOfLine f l e)
 
   -- a line's route is that of its record
-  pub route-of : (e : Entry) → routeOf procedures (operation f l e) ≡ routeIn e
-  unfolding operation routeOf
+  pub route-of : (e : Entry) → routeOfOp procedures (operation f l e) ≡ routeIn e
+  unfolding operation routeOfOp
   route-of e = by (eqb (e .letter) (code "D"))
     where
-      by : (b : Bool) → routeOf procedures (cond b (take-out (recordOfLine f l e)) (put-in (recordOfLine f l e))) ≡ routeIn e
+      by : (b : Bool) → routeOfOp procedures (cond b (take-out (recordOfLine f l e)) (put-in (recordOfLine f l e))) ≡ routeIn e
       by true = refl
       by false = refl
 

@@ -15,22 +15,22 @@ use Rattle.refusals.specs.declared.Verdict.the-variants.{Accepted, Refused}
 use Rattle.history.specs.Sets.{Numbers}
 use Rattle.routes.specs.Sources.{recordAt, inUse}
 use Rattle.routes.specs.declared.Sources.{Sources}
-use Rattle.selection.specs.Pick.{membersFrom, grown, listed, lineIn, lineOfPick}
+use Rattle.selection.specs.Pick.{membersFrom, withMembers, membersAs, lineIn, lineOfPick}
 use Rattle.selection.specs.declared.Picked.{Picked}
 use Rattle.selection.specs.declared.carry.Members.{Members}
 
 -- ---- the marked numbers
 
-pub grown-none : (m : Members) (n : ℕ) {b : Bool} → b ≡ false → m ≡ grown m (cond b (n ∷ []) [])
-unfolding grown
+pub grown-none : (m : Members) (n : ℕ) {b : Bool} → b ≡ false → m ≡ withMembers m (cond b (n ∷ []) [])
+unfolding withMembers
 grown-none m n e = let z : m .count + 0 ≡ m .count = omega arith in rw (e, z)
 
-pub grown-one : (m : Members) (n : ℕ) {b : Bool} → b ≡ true → record { count = m .count + 1; at = set (m .at) (m .count) n } ≡ grown m (cond b (n ∷ []) [])
-unfolding grown
+pub grown-one : (m : Members) (n : ℕ) {b : Bool} → b ≡ true → record { count = m .count + 1; at = set (m .at) (m .count) n } ≡ withMembers m (cond b (n ∷ []) [])
+unfolding withMembers
 grown-one m n e = rw e
 
-grown-twice : (m : Members) (xs ys : List ℕ) → grown (grown m xs) ys ≡ grown m (xs ++ ys)
-unfolding grown
+grown-twice : (m : Members) (xs ys : List ℕ) → withMembers (withMembers m xs) ys ≡ withMembers m (xs ++ ys)
+unfolding withMembers
 grown-twice m xs ys =
     ap₂ (λ (x : ℕ) (zs : List ℕ). record { count = x; at = zs }) (let e : m .count + length xs + length ys ≡ m .count + length (xs ++ ys) = omega (arith, length-append xs ys) in e)
     (sym (sets-append xs ys (m .at) (m .count)))
@@ -43,37 +43,37 @@ members-few T n (suc m) = split (T n) (λ t. rw t (omega (arith, members-few T (
 -- the numbers from n + 1 on are left
 module _ (T : Numbers) (total n : ℕ) (found : Members) where
   unfoldable pub membersLeft : Members
-  membersLeft = grown found (membersFrom T (n + 1) (total - n))
+  membersLeft = withMembers found (membersFrom T (n + 1) (total - n))
 
   pub members-end : {whole : Members} → whole ≡ membersLeft → total ≤ n → found ≡ whole
-  unfolding membersLeft membersFrom grown
+  unfolding membersLeft membersFrom withMembers
   members-end w h = let z : total - n ≡ 0 = omega arith in let c : found .count + 0 ≡ found .count = omega arith in sym (w ∙ rw (z, c))
 
-pub members-start : (T : Numbers) (total : ℕ) → total ≤ 200 → listed (membersFrom T 1 total) ≡ membersLeft T total 0 (record { count = 0; at = replicate 200 0 })
-unfolding membersLeft grown listed
+pub members-start : (T : Numbers) (total : ℕ) → total ≤ 200 → membersAs (membersFrom T 1 total) ≡ membersLeft T total 0 (record { count = 0; at = replicate 200 0 })
+unfolding membersLeft withMembers membersAs
 members-start T total h =
     let e : total - 0 ≡ total = omega arith in
     let z : 0 + length (membersFrom T 1 total) ≡ length (membersFrom T 1 total) = omega arith in
     sym (rw (e, z) (ap (λ (xs : List ℕ). record { count = length (membersFrom T 1 total); at = xs }) (stored-front 0 200 (membersFrom T 1 total) (omega (arith, members-few T 1 total)))))
 
 pub members-next : (T : Numbers) (total n : ℕ) (found next : Members) {b : Bool} {whole : Members} → whole ≡ membersLeft T total n found → n < total → b ≡ T (n + 1)
-    → next ≡ grown found (cond b ((n + 1) ∷ []) []) → whole ≡ membersLeft T total (n + 1) next
+    → next ≡ withMembers found (cond b ((n + 1) ∷ []) []) → whole ≡ membersLeft T total (n + 1) next
 unfolding membersLeft membersFrom
 members-next T total n found next {b} w h t e =
-    w ∙ rw (one-less total n h) (ap (grown found) (apart (T (n + 1)) (membersFrom T (n + 1 + 1) (total - (n + 1)))))
+    w ∙ rw (one-less total n h) (ap (withMembers found) (apart (T (n + 1)) (membersFrom T (n + 1 + 1) (total - (n + 1)))))
     ∙ sym (grown-twice found (cond (T (n + 1)) ((n + 1) ∷ []) []) (membersFrom T (n + 1 + 1) (total - (n + 1))))
-    ∙ ap (λ (m : Members). grown m (membersFrom T (n + 1 + 1) (total - (n + 1)))) (sym (e ∙ ap (λ (x : Bool). grown found (cond x ((n + 1) ∷ []) [])) t))
+    ∙ ap (λ (m : Members). withMembers m (membersFrom T (n + 1 + 1) (total - (n + 1)))) (sym (e ∙ ap (λ (x : Bool). withMembers found (cond x ((n + 1) ∷ []) [])) t))
   where
     apart : (x : Bool) (rest : List ℕ) → cond x ((n + 1) ∷ rest) rest ≡ cond x ((n + 1) ∷ []) [] ++ rest
     apart true rest = refl
     apart false rest = refl
 
 -- no more were found than there are numbers before
-pub grown-few : (found next : Members) (n : ℕ) (b : Bool) → next ≡ grown found (cond b ((n + 1) ∷ []) []) → found .count ≤ n → next .count ≤ n + 1
-unfolding grown
+pub grown-few : (found next : Members) (n : ℕ) (b : Bool) → next ≡ withMembers found (cond b ((n + 1) ∷ []) []) → found .count ≤ n → next .count ≤ n + 1
+unfolding withMembers
 grown-few found next n b e h = subst (λ (m : Members). m .count ≤ n + 1) (sym e) (by b)
   where
-    by : (x : Bool) → grown found (cond x ((n + 1) ∷ []) []) .count ≤ n + 1
+    by : (x : Bool) → withMembers found (cond x ((n + 1) ∷ []) []) .count ≤ n + 1
     by true = omega arith
     by false = omega arith
 

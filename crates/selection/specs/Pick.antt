@@ -68,11 +68,11 @@ membersFrom T n zero = []
 membersFrom T n (suc m) = cond (T n) (n ∷ membersFrom T (n + 1) m) (membersFrom T (n + 1) m)
 
 -- numbers with some more behind them, and numbers alone, with zeros past them, as the code has them
-unfoldable pub grown : Members → List ℕ → Members
-grown m ns = record { count = m .count + length ns; at = sets (m .at) (m .count) ns }
+unfoldable pub withMembers : Members → List ℕ → Members
+withMembers m ns = record { count = m .count + length ns; at = sets (m .at) (m .count) ns }
 
-unfoldable pub listed : List ℕ → Members
-listed ns = record { count = length ns; at = padded 200 ns }
+unfoldable pub membersAs : List ℕ → Members
+membersAs ns = record { count = length ns; at = padded 200 ns }
 
 -- ---- the pick
 

@@ -10,8 +10,8 @@ ghost use Rattle.selection.specs.Pick.{
   Reads,
   everything,
   membersFrom,
-  grown,
-  listed,
+  withMembers,
+  membersAs,
   outcomeVerdict,
   refusedBy,
   carried,
@@ -59,7 +59,7 @@ pub(crate) fn refused_pick(refusal: Refusal) -> Picked
 // The numbers with one more behind them, if it is marked.
 fn with_number(found: Members, n: usize, marked: bool) -> Members
     requires { ⌜ (found .count < 200) × (n ≤ 200) ⌝ }
-    ensures { λ r. ⌜ r ≡ grown found (cond marked (n ∷ []) []) ⌝ }
+    ensures { λ r. ⌜ r ≡ withMembers found (cond marked (n ∷ []) []) ⌝ }
 {
     if !marked {
         return found;
@@ -74,7 +74,7 @@ fn with_number(found: Members, n: usize, marked: bool) -> Members
 // The marked numbers from 1 up to a total.
 fn members_of(marks: &[u8], total: usize) -> Members
     requires { ⌜ total ≤ 200 ⌝ }
-    ensures { λ r. ⌜ r ≡ listed (membersFrom (marked (now (marks .entry))) 1 total) ⌝ }
+    ensures { λ r. ⌜ r ≡ membersAs (membersFrom (marked (now (marks .entry))) 1 total) ⌝ }
 {
     let mut found = Members {
         count: 0,

@@ -12,7 +12,7 @@ use Rattle.slices.specs.Order.{order, equal}
 use Rattle.slices.specs.Search.{firstAt}
 use Rattle.wanted.specs.declared.Wanted.{Wanted}
 use Rattle.digits.specs.Digits.{isDigit, allDigits, value}
-use Rattle.wanted.specs.Numbers.{numberOf, lineNumber, numbersIn, listed, wantedOf}
+use Rattle.wanted.specs.Numbers.{numberOf, lineNumber, numbersIn, wantedAs, wantedOf}
 
 codes : String → List ℕ
 codes ε = []
@@ -28,7 +28,7 @@ text reads numbers = record { text = text; numbers = numbers }
 
 -- the numbers with zeros behind them, up to 201
 same : Vector → Wanted → Bool
-same v w = eqb (length (v .numbers)) (w .count) && equal (w .at) (listed (v .numbers) .at)
+same v w = eqb (length (v .numbers)) (w .count) && equal (w .at) (wantedAs (v .numbers) .at)
 
 right : List Vector → Bool
 right [] = true
@@ -67,5 +67,5 @@ worked : right (
     lines 199 "7" (codes "7") reads (replicate 199 7 ++ 0 ∷ []) ∷
     []
     ) ≡ true
-unfolding isDigit allDigits value numberOf lineNumber numbersIn listed wantedOf order equal firstAt codes _reads_ same right _then_ lines end
+unfolding isDigit allDigits value numberOf lineNumber numbersIn wantedAs wantedOf order equal firstAt codes _reads_ same right _then_ lines end
 worked = refl

@@ -28,11 +28,11 @@ numbersIn zero bs = cond (eqb (length bs) 0) [] (0 ∷ [])
 numbersIn (suc most) bs = cond (eqb (length bs) 0) [] (lineNumber bs ∷ numbersIn most (drop (toLineFeed bs + 1) bs))
 
 -- the numbers with zeros behind them
-unfoldable pub listed : List ℕ → Wanted
-listed ns = record { count = length ns; at = padded 201 ns }
+unfoldable pub wantedAs : List ℕ → Wanted
+wantedAs ns = record { count = length ns; at = padded 201 ns }
 
 unfoldable pub wantedOf : List ℕ → Wanted
-wantedOf text = listed (numbersIn 200 text)
+wantedOf text = wantedAs (numbersIn 200 text)
 
 -- the number of the line that begins at an offset
 unfoldable pub numberAt : ℕ → List ℕ → ℕ

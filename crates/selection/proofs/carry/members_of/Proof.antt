@@ -1,6 +1,6 @@
 -- The invariant: the numbers that are left, behind those that were found, are the answer. Assumes nothing.
 use Rattle.applying.specs.Run.{marked}
-use Rattle.selection.specs.Pick.{membersFrom, listed}
+use Rattle.selection.specs.Pick.{membersFrom, membersAs}
 use Prim.Native.Nat.{_≤_, _-_}
 use mathlib.Core.Path.{_≡_}
 use Rattle.selection.proofs.MemberLaws.{membersLeft, members-start, members-next, members-end, grown-few}
@@ -10,7 +10,7 @@ use Rattle.selection.proofs.carry.members_of.Statement.{statement}
 use Rattle.selection.proofs.carry.members_of.Tie as tie
 
 abbrev Inv-loop : tie.InvT-loop
-Inv-loop marks total found₀ n₀ found n = (n ≤ total) × (total ≤ 200) × (found .count ≤ n) × (listed (membersFrom (marked marks) 1 total) ≡ membersLeft (marked marks) total n found)
+Inv-loop marks total found₀ n₀ found n = (n ≤ total) × (total ≤ 200) × (found .count ≤ n) × (membersAs (membersFrom (marked marks) 1 total) ≡ membersLeft (marked marks) total n found)
 
 abbrev μ-loop : tie.MeasureT-loop
 μ-loop marks total found₀ n₀ found n = total - n
