@@ -43,5 +43,5 @@ use Rattle.statements.specs.Starred.{Meets, starred, leg, only, frozen, 
 
 -- Every row is met. The definitions that the rows come down to are opened, so that they compute.
 pub cases : Every Meets starred
-unfolding starred full approach _at_is_ codes leg only frozen line replaced log lines readingOf legReading refusedReading alone sizeColumn legOf altitudeOf distanceOf feetOf isHolding value judged judgedLeg stage companionColumn oddOne neededColumn neededOf missing blank member part terminatorOf terminatorAt inOrder numberOf nameOf among endsAtFix needed needs firstAt equal order firstBadField layoutOf kindOf firstOf matches stands fitsAll fits primary fileVerdict sizeStage tailStage tailColumn inTurn leading records walked walkFrom finished last judgedNext primaryAfter continuationStage continuationColumn awaits orderStage sequenceStage legStage legStands firstLeg pair onlyFirst neverFirst followsFix bind pickOf opened lengthStage readLog read lineOf whole reach heading change digitsBy decimal wantedStage carried takenOf wants membersFrom leadingLines byCorrection ran corrected linesApplied lineApplied touched together touchedJudged withSource withoutRecord countBefore notBefore hasPlace isRecord putAt leftOut recordAt recordWithin inUse sourcesOf sourcesFor sourcesTo starts placeOf operation operations closureTo addRelied lastOn numbered add touches? routeOfOp same? ℕ-discrete
+unfolding starred full approach _at_is_ codes leg only frozen line replaced log lines readingOf legReading refusedReading alone sizeColumn legOf altitudeOf distanceOf feetOf isHolding value judged judgedLeg stage companionColumn oddOne neededColumn neededOf missing blank member part terminatorOf terminatorAt inOrder terminatorNumber nameOf among endsAtFix needed needs firstAt equal order firstBadField layoutOf kindOf firstOf matches stands fitsAll fits primary fileVerdict sizeStage tailStage tailColumn inTurn leading records walked walkFrom finished last judgedNext primaryAfter continuationStage continuationColumn awaits orderStage sequenceStage legStage legStands firstLeg pair onlyFirst neverFirst followsFix bind pickOf opened lengthStage readLog read lineOf whole reach heading change digitsBy decimal wantedStage carried takenOf wants membersFrom leadingLines byCorrection ran corrected linesApplied lineApplied touched together touchedJudged withSource withoutRecord countBefore notBefore hasPlace isRecord putAt leftOut recordAt recordWithin inUse sourcesOf sourcesFor sourcesTo starts placeOf operation operations closureTo addRelied lastOn numbered add touches? routeOfOp same? ℕ-discrete
 cases = (refl, (refl, (refl, (refl, (refl, (refl, (refl, (refl, (refl, (refl, (refl, (refl, (refl, (refl, (refl, (refl, (refl, (refl, (refl, (refl, (refl, tt)))))))))))))))))))))
