@@ -110,7 +110,8 @@ module _ (rec : List ℕ) (n at : ℕ) (w : n ≡ 5) (filled : blank (part n at 
   unfolding altitudeOf
   altitude-below h f = rw (filled, mark, h, digits-of 4 1 n at rec (omega arith) f)
 
-  pub altitude-feet : {v : ℕ} → (b ≡ code "F" → ⊥) → (b ≡ code "-" → ⊥) → v ≡ value (part n at rec) → altitude.Feet (record { 0 = v }) ≡ altitudeOf (part n at rec)
+  pub altitude-feet : {v : ℕ} → (b ≡ code "F" → ⊥) → (b ≡ code "-" → ⊥) → v ≡ value (part n at rec)
+      → altitude.Feet (record { 0 = v }) ≡ altitudeOf (part n at rec)
   unfolding altitudeOf
   altitude-feet h k f = rw (filled, mark, ne-eqb b (code "F") h, ne-eqb b (code "-") k, ← f)
 

@@ -57,8 +57,10 @@ loop-again : tie.Need-loop-again Inv-loop μ-loop
 loop-again c =
     let turn = c .before .before .before .before .before in
     let inv = turn .before .loop .inv in
-    let on = missing-on _ _ needable _ (inv .1) _ (turn .loop-test .taken) (c .before .before .asked .ensures) (c .before .is-blank .ensures) (c .if1 .left) in
-    (search needs, on)
+    let blank = c .before in (
+      search needs,
+      missing-on _ _ needable _ (inv .1) _ (turn .loop-test .taken) (blank .before .asked .ensures) (blank .is-blank .ensures) (c .if1 .left),
+    )
 
 returns-2 : tie.Need-returns-2 Inv-loop μ-loop
 returns-2 c = missing-none _ _ needable _ (c .before .loop .inv .1) (c .loop-test .left)
