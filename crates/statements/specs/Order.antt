@@ -43,7 +43,7 @@ recordOrder place rec =
     byKind (kindOf rec) (stage (neededColumn rec) (neededBlank place) Accepted) ∷
     []
 
--- 4, "the first blank companion": of each group in its order, fix, navaid and centre fix, the first blank one where not all are
+-- 4, "first blank companion": of each group in its order, fix, navaid and centre fix, the first blank one where not all are
 abbrev pub companionOrder : (place : ℕ) → List ℕ → List Verdict
 companionOrder place rec =
     stage (oddOne (field 30 34) (field 35 36) (field 37 37) rec 0) (companionBlank place) Accepted ∷
