@@ -36,7 +36,7 @@ use Rattle.routes.specs.First.{First}
 use Rattle.routes.specs.Files.{fileVerdict}
 use Rattle.routes.specs.Sources.{records, inUse, sourcesOf}
 use Rattle.routes.proofs.InTurnLaws as turns
-use Rattle.routes.proofs.FirstLaws.{first-iff}
+use Rattle.routes.proofs.FirstLaws.{first-iff, file-refuses}
 use Rattle.corrections.specs.Reading.{Entry, Reading, refused, said, readLog}
 use Rattle.applying.specs.Apply.{linesApplied, touchedJudged}
 use Rattle.applying.specs.Correct.{Outcome, stopped, reached, corrected, afterLines, afterJudging}
@@ -174,8 +174,7 @@ write-first lent rec = by-order (writeOrder lent rec) writing-order
 -- ---- a file
 
 pub file-first : (f : List ℕ) (r : Refusal) → (fileVerdict f ≡ Refused r) ↔ First r (fileOrder f)
-unfolding fileVerdict
-file-first f r = first-iff r (fileOrder f)
+file-first f r = file-refuses r f
 
 -- ---- a log
 
