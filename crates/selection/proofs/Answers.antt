@@ -34,6 +34,10 @@ pub counts-are : (ns xs : List ℕ) → (pickedAs (picked ns xs) .count ≡ leng
 unfolding pickedAs sourcesFor
 counts-are ns xs = (refl, refl)
 
+-- A refused pick is none that stands.
+pub picked-not-refused : {r : Refusal} {ns xs : List ℕ} → refusedBy r ≡ picked ns xs → ⊥
+picked-not-refused e = let z : _≡_ {A = ℕ} 0 1 = cc in absurd (omega arith)
+
 -- ---- the lines
 
 module _ (f l : List ℕ) where
@@ -99,9 +103,6 @@ module _ (f l : List ℕ) where
   pub file-accepted : (ws ns xs : List ℕ) → pickOf f l ws ≡ picked ns xs → fileVerdict (newBytes f l (picked ns xs)) ≡ Accepted
   unfolding newBytes newRecords
   file-accepted ws ns xs e = picked-demand f l ws ns xs e .accepted
-
-  picked-not-refused : {r : Refusal} {ns xs : List ℕ} → refusedBy r ≡ picked ns xs → ⊥
-  picked-not-refused e = let z : _≡_ {A = ℕ} 0 1 = cc in absurd (omega arith)
 
   -- In a buffer that is lent for it they stand in front, and zeros past them.
   pub file-bytes : (lent : ℕ) (ws ns xs : List ℕ) → filePick f l lent ws ≡ picked ns xs

@@ -14,11 +14,12 @@ use Rattle.refusals.specs.declared.Refusal.{Refusal}
 use Rattle.refusals.specs.declared.Verdict.the-variants.{Accepted, Refused}
 use Rattle.columns.specs.Rows.{Leftmost}
 use Rattle.columns.specs.Kinds.{kindOf, layoutOf, firstBadField}
+use Rattle.columns.specs.Words.{ContinuationContent}
 use Rattle.leg.specs.Stages.{companionColumn, neededColumn}
 use Rattle.leg.specs.Judge.{stage}
-use Rattle.leg.specs.Legal.{Legal}
-use Rattle.fields.specs.Leg.{renderLeg}
-use Rattle.fields.specs.Continuation.{renderContinuation}
+use Rattle.leg.specs.Legal.{LegalLeg, Legal}
+use Rattle.fields.specs.Leg.{legOf, renderLeg}
+use Rattle.fields.specs.Continuation.{continuationOf, contentOf, renderContinuation}
 use Rattle.fields.specs.declared.primary.Leg.{Leg}
 use Rattle.fields.specs.declared.continuation.Continuation.{Continuation}
 use Rattle.parts.specs.Given.{Alone, LegGiven, ContinuationGiven}
@@ -146,6 +147,15 @@ pub log-accepted : (frozen log : List ℕ) → (logVerdict frozen log ≡ Accept
     × (last : List (List ℕ))
     × (run procedures (records frozen) (logOf l) ≡ some last))
 log-accepted = log-runs
+
+-- Every accepted record is read into its own parts: a leg, or a continuation with its 83 bytes; and never into nothing.
+pub leg-read : (rec s : List ℕ) → Alone rec s → LegalLeg rec
+    → readingOf s ≡ record { verdict = Accepted; parts = read.Leg (legOf rec); content = replicate 83 0 }
+leg-read = parts.leg-read
+
+pub continuation-read : (rec s : List ℕ) → Alone rec s → ContinuationContent rec
+    → readingOf s ≡ record { verdict = Accepted; parts = read.Continuation (continuationOf rec); content = contentOf rec }
+continuation-read = parts.continuation-read
 
 -- An accepted record read into parts and written again is the same bytes, with zeros past them.
 pub leg-the-same : (s : List ℕ) (g : Leg) (content : List ℕ) (lent : ℕ)

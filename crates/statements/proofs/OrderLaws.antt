@@ -44,6 +44,7 @@ use Rattle.applying.specs.Run.{byCorrection, ran, onward}
 use Rattle.selection.specs.Pick.{lengthStage, ifAccepted, opened, wantedStage, everything, Pick, refusedBy, picked, judgedFirst, ranFirst, outcomeVerdict, carried, takenOf, membersFrom, logJudged, logVerdict, pickFrom, pickOf, filePick}
 use Rattle.selection.proofs.OpenedLaws.{said-opening}
 use Rattle.selection.proofs.PickSteps.{Whole, whole-picks}
+use Rattle.selection.proofs.Answers.{picked-not-refused}
 use Rattle.answers.specs.Answers.{answered}
 use Rattle.statements.specs.Order.{recordOrder, companionOrder, neededStage, neededOrder, readOrder, roomStage, writeOrder, fileOrder, linesStage, numbersStage, correctionsStage, reading, checkOrder, pickOrder, newFileOrder, NotInLog, FirstWanted, at, behind, FirstCorrection, unapplied, route}
 
@@ -72,9 +73,6 @@ by-order vs e r = subst (λ (x : Verdict). (x ≡ Refused r) ↔ First r vs) (sy
 
 same-refused : {r s : Refusal} → refusedBy r ≡ refusedBy s → r ≡ s
 same-refused e = cc
-
-not-picked : {r : Refusal} {taken sources : List ℕ} → refusedBy r ≡ picked taken sources → ⊥
-not-picked e = let z : _≡_ {A = ℕ} 0 1 = cc in omega arith
 
 -- ---- a record
 
@@ -266,7 +264,7 @@ module _ (frozen log : List ℕ) where
     in-order r = (λ e. by (inTurn (pickOrder frozen log ws)) refl e, pick-turn r)
       where
         by : (v : Verdict) → inTurn (pickOrder frozen log ws) ≡ v → pickOf frozen log ws ≡ refusedBy r → inTurn (pickOrder frozen log ws) ≡ Refused r
-        by Accepted t e = let (ns, xs, q) = pick-passes t in absurd (not-picked (sym e ∙ q))
+        by Accepted t e = let (ns, xs, q) = pick-passes t in absurd (picked-not-refused (sym e ∙ q))
         by (Refused s) t e = t ∙ ap Refused (same-refused (sym (pick-turn s t) ∙ e))
 
     -- A pick is refused exactly by the first in the order.
