@@ -42,9 +42,12 @@ routeNotLater place = refusal 7 place 1
 abbrev pub sequenceNotRisen : (place : ℕ) → Refusal
 sequenceNotRisen place = refusal 7 place 27
 
--- first leg or pair: the record, 48
+-- first leg or pair / last leg: the record; 48 / 49
 abbrev pub legPair : (place : ℕ) → Refusal
 legPair place = refusal 8 place 48
+
+abbrev pub legEnding : (place : ℕ) → Refusal
+legEnding place = refusal 8 place 49
 
 -- log line: the line, the first byte from which it can't be completed
 abbrev pub logLine : (place column : ℕ) → Refusal

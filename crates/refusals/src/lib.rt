@@ -13,6 +13,7 @@ ghost use Rattle.refusals.specs.Table.{
   routeNotLater,
   sequenceNotRisen,
   legPair,
+  legEnding,
   logLine,
   doesNotApply,
   routeRefused,
@@ -55,7 +56,7 @@ impl Refusal {
 
     pub const ORDER: u8 = 7;
 
-    pub const LEG_PAIR: u8 = 8;
+    pub const LEG: u8 = 8;
 
     pub const LOG_LINE: u8 = 9;
 
@@ -147,7 +148,14 @@ impl Refusal {
     pub fn leg_pair(place: usize) -> Refusal
         ensures { λ r. ⌜ r ≡ legPair place ⌝ }
     {
-        Refusal::of(Refusal::LEG_PAIR, place, 48)
+        Refusal::of(Refusal::LEG, place, 48)
+    }
+
+    // The leg can't end its route.
+    pub fn leg_ending(place: usize) -> Refusal
+        ensures { λ r. ⌜ r ≡ legEnding place ⌝ }
+    {
+        Refusal::of(Refusal::LEG, place, 49)
     }
 
     // From the column on the line can't be completed to a legal one.

@@ -1,9 +1,9 @@
 -- Laws of a file's last stages: what stands behind its records, and a continuation that is missing at the end.
 -- Assumes nothing.
-use mathlib.Core.Path.{_≡_, sym, ap, _∙_}
+use mathlib.Core.Path.{_≡_, sym, ap, ap₂, _∙_}
 use mathlib.Core.Bool.{Bool, true, false}
-use mathlib.Core.List.{List, [], _∷_}
-use Prim.Native.Nat.{ℕ, _+_, _-_, _*_, _≤_, _<_, min}
+use mathlib.Core.List.{List, [], _∷_, map}
+use Prim.Native.Nat.{ℕ, _+_, _-_, _*_, _/_, _≤_, _<_, min}
 use native.Mathlib.Omega.{arith}
 use lib.ListN.{length, getD}
 use borrow.Author.Tests.{le-leb, lt-leb, lt-ltb, le-ltb, ne-eqb}
@@ -13,14 +13,14 @@ use Rattle.refusals.specs.declared.Verdict.{Verdict}
 use Rattle.refusals.specs.declared.Verdict.the-variants.{Accepted, Refused}
 use Rattle.leg.specs.Judge.{stage}
 use Rattle.routes.specs.InTurn.{inTurn}
-use Rattle.routes.specs.Sources.{recordAt, sourcesIn, recordsIn, records, sourcesOf}
+use Rattle.routes.specs.Sources.{recordAt, inUse, sourcesIn, recordsIn, records, behindRecords, sourcesTo}
 use Rattle.routes.specs.Stages.{nothing, awaits}
 use Rattle.routes.specs.Walk.{walkFrom, last, finished}
-use Rattle.routes.specs.Known.{Known, walkKnowing}
+use Rattle.routes.specs.Known.{Known, walkKnowing, walkedKnowing}
 use Rattle.routes.proofs.KnownLaws.{walk-known}
 use Rattle.routes.specs.Files.{sizeStage, tailColumn, tailStage, fileVerdict}
 use Rattle.routes.specs.declared.Sources.{Sources}
-use Rattle.routes.proofs.SourceLaws.{length-range, last-range, own-records, own-count}
+use Rattle.routes.proofs.SourceLaws.{length-range, last-range, range-none, pieces-judged, pieces-behind}
 use Rattle.routes.proofs.InTurnLaws.{in-turn-cons, first-accepts}
 
 -- ---- 1
@@ -63,26 +63,38 @@ module _ (f l : List ℕ) (s : Sources) (long : length (s .at) ≡ 480) (from to
 
 -- ---- the whole file
 
--- what the file's own sources give
-module _ (f : List ℕ) where
-  pub own-walk : (l : List ℕ) {known : List ℕ} {s : Sources} {v : Verdict} → Known f l known → s ≡ sourcesOf f
-      → v ≡ walkKnowing known f l nothing 1 (sourcesIn s 0 (s .count)) → v ≡ walkFrom nothing 1 (records f)
+-- what the sources of its pieces give
+module _ (f : List ℕ) {n : ℕ} (e : n ≡ length f / 133) {count : ℕ} (c : count ≡ length (records f)) (short : length f ≤ 63840) {s : Sources} (p : s ≡ sourcesTo n) where
+  pub own-walk : {known : List ℕ} {v : Verdict} → Known f f known → v ≡ walkKnowing known f f (recordsIn f f s count n) nothing 1 (sourcesIn s 0 count)
+      → v ≡ walkFrom (behindRecords f) nothing 1 (records f)
+  own-walk k q =
+      q
+      ∙ walk-known f f k (recordsIn f f s count n) nothing 1 (sourcesIn s 0 count)
+      ∙ ap₂ (λ (a b : List (List ℕ)). walkFrom a nothing 1 b) (pieces-behind f e c short p) (pieces-judged f e c short p)
+
+  pub own-finish : {v : Verdict} → v ≡ finished (recordsIn f f s 0 count) → v ≡ finished (records f)
   unfolding recordsIn
-  own-walk l {known} {s} k e q =
-      q ∙ walk-known f l k nothing 1 (sourcesIn s 0 (s .count)) ∙ ap (λ (t : Sources). walkFrom nothing 1 (recordsIn f l t 0 (t .count))) e ∙ ap (walkFrom nothing 1) (own-records f l)
+  own-finish q = q ∙ ap finished (pieces-judged f e c short p)
 
-  pub own-finish : (l : List ℕ) {s : Sources} {v : Verdict} → s ≡ sourcesOf f → v ≡ finished (recordsIn f l s 0 (s .count)) → v ≡ finished (records f)
-  own-finish l e q = q ∙ rw (e, own-records f l)
+-- a range by itself: nothing is ahead of it
+pub range-alone : (known f l : List ℕ) (s : Sources) (from to : ℕ) {v e r : Verdict}
+    → v ≡ walkKnowing known f l (recordsIn f l s to to) nothing 1 (sourcesIn s from to) → e ≡ finished (recordsIn f l s from to) → r ≡ inTurn (v ∷ e ∷ [])
+    → r ≡ walkedKnowing known f l (sourcesIn s from to)
+unfolding recordsIn walkedKnowing
+range-alone known f l s from to p q x =
+    x
+    ∙ ap₂ (λ (a b : Verdict). inTurn (a ∷ b ∷ []))
+    (p ∙ ap (λ (a : List ℕ). walkKnowing known f l (map (recordAt f l) a) nothing 1 (sourcesIn s from to)) (range-none to (inUse s))) q
 
-  pub own-tail : {s : Sources} {v : Verdict} → s ≡ sourcesOf f → v ≡ tailStage (length f) (s .count) → v ≡ tailStage (length f) (length (records f))
-  own-tail e q = q ∙ ap (tailStage (length f)) (own-count f e .0)
+pub own-tail : (f : List ℕ) {count : ℕ} {v : Verdict} → count ≡ length (records f) → v ≡ tailStage (length f) count → v ≡ tailStage (length f) (length (records f))
+own-tail f c q = q ∙ ap (tailStage (length f)) c
 
 pub too-long : (f : List ℕ) {r : Refusal} → 63840 < length f → r ≡ tooManyRecords → Refused r ≡ fileVerdict f
 unfolding fileVerdict sizeStage inTurn
 too-long f h q = rw (lt-leb (length f) 63840 h, q)
 
-pub not-too-long : (f : List ℕ) {v t e w r : Verdict} → length f ≤ 63840 → v ≡ walkFrom nothing 1 (records f) → t ≡ tailStage (length f) (length (records f))
-    → e ≡ finished (records f) → w ≡ inTurn (t ∷ e ∷ []) → r ≡ inTurn (v ∷ w ∷ []) → r ≡ fileVerdict f
+pub not-too-long : (f : List ℕ) {v t e w r : Verdict} → length f ≤ 63840 → v ≡ walkFrom (behindRecords f) nothing 1 (records f)
+    → t ≡ tailStage (length f) (length (records f)) → e ≡ finished (records f) → w ≡ inTurn (t ∷ e ∷ []) → r ≡ inTurn (v ∷ w ∷ []) → r ≡ fileVerdict f
 unfolding fileVerdict sizeStage
 not-too-long f {v} {t} {e} h p q s x y =
     y ∙ ap (λ (z : Verdict). inTurn (v ∷ z ∷ [])) x ∙ in-turn-cons v (t ∷ e ∷ []) ∙ rw (le-leb (length f) 63840 h, ← p, ← q, ← s) (sym (first-accepts (v ∷ t ∷ e ∷ [])))

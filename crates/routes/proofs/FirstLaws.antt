@@ -2,7 +2,8 @@
 -- Assumes nothing.
 use mathlib.Core.Path.{_≡_, refl, sym, subst}
 use mathlib.Core.Logic.{_↔_}
-use mathlib.Core.List.{List, [], _∷_}
+use mathlib.Core.Bool.{Bool, not, _&&_}
+use mathlib.Core.List.{List, [], _∷_, _++_}
 use Prim.Native.Nat.{ℕ, _+_, _≤_}
 use native.Mathlib.Omega.{arith}
 use lib.Dec.{eqb}
@@ -16,16 +17,17 @@ use Rattle.columns.specs.Words.{columns}
 use Rattle.columns.specs.Kinds.{kindOf, firstBadField}
 use Rattle.columns.specs.declared.Kind.{Kind}
 use Rattle.columns.specs.declared.Kind.the-variants.{Primary, Continuation}
-use Rattle.refusals.specs.Table.{refusal, fieldContent, companionBlank, neededBlank, continuationHead, routeNotLater, sequenceNotRisen, legPair}
+use Rattle.refusals.specs.Table.{refusal, fieldContent, companionBlank, neededBlank, continuationHead, routeNotLater, sequenceNotRisen, legPair, legEnding}
 use Rattle.refusals.specs.declared.Refusal.{Refusal}
 use Rattle.refusals.specs.declared.Verdict.{Verdict}
 use Rattle.refusals.specs.declared.Verdict.the-variants.{Accepted, Refused}
 use Rattle.leg.specs.Stages.{companionColumn, neededColumn}
 use Rattle.leg.specs.Judge.{stage, judgedLeg, byKind, judged}
 use Rattle.routes.specs.InTurn.{inTurn}
-use Rattle.routes.specs.Sources.{records}
-use Rattle.routes.specs.Stages.{Seen, nothing, columnsTo, continuationColumn, continuationStage, byOrder, sequenceStage, orderStage, legStands, legStage}
-use Rattle.routes.specs.Walk.{stagesAfter, judgedNext, seenWith, walkFrom, finished, walked}
+use Rattle.routes.specs.Sources.{records, behindRecords}
+use Rattle.routes.specs.Stages.{Seen, nothing, columnsTo, continuationColumn, continuationStage, byOrder, sequenceStage, orderStage, legStands, legStage, endingStage}
+use Rattle.routes.specs.Pairs.{lastLeg}
+use Rattle.routes.specs.Walk.{endsRoute, stagesAfter, judgedNext, seenWith, walkFrom, finished, walked}
 use Rattle.routes.specs.Files.{sizeStage, tailStage, fileVerdict}
 use Rattle.routes.specs.First.{AllAccept, none, also, First, here, there, FirstRecord, at, behind, Names, Naming}
 
@@ -117,41 +119,52 @@ module _ (place : ℕ) (rec : List ℕ) where
   leg-names key Primary p =
       split (legStands key p rec) (λ e. rw e names-accepted) (λ e. rw e (names-refused (legPair place) (named 8 place 48 8 8 (omega arith) (omega arith))))
 
+  pub ending-names : (last : Bool) → Naming 8 8 place (endingStage last place rec)
+  unfolding endingStage
+  ending-names last =
+      split (last && not (lastLeg rec)) (λ e. rw e (names-refused (legEnding place) (named 8 place 49 8 8 (omega arith) (omega arith)))) (λ e. rw e names-accepted)
+
 -- whichever stage it is, the place is the record's
-stages-place : (s : Seen) (place : ℕ) (rec : List ℕ) (r : Refusal) → First r (stagesAfter s place rec) → r .place ≡ place
-stages-place s place rec r (here e) = judged-names place rec r e .spot
-stages-place s place rec r (there _ (here e)) = continuation-names place rec 38 39 (kindOf rec) s r e .spot
-stages-place s place rec r (there _ (there _ (here e))) = order-names place rec 25 (kindOf rec) (s .primary) r e .spot
-stages-place s place rec r (there _ (there _ (there _ (here e)))) = leg-names place rec 25 (kindOf rec) (s .primary) r e .spot
+stages-place : (s : Seen) (place : ℕ) (last : Bool) (rec : List ℕ) (r : Refusal) → First r (stagesAfter s place last rec) → r .place ≡ place
+stages-place s place last rec r (here e) = judged-names place rec r e .spot
+stages-place s place last rec r (there _ (here e)) = continuation-names place rec 38 39 (kindOf rec) s r e .spot
+stages-place s place last rec r (there _ (there _ (here e))) = order-names place rec 25 (kindOf rec) (s .primary) r e .spot
+stages-place s place last rec r (there _ (there _ (there _ (here e)))) = leg-names place rec 25 (kindOf rec) (s .primary) r e .spot
+stages-place s place last rec r (there _ (there _ (there _ (there _ (here e))))) = ending-names place rec last r e .spot
 
 -- ---- the first record that fails
 
-walk-to : (r : Refusal) (s : Seen) (place : ℕ) (recs : List (List ℕ)) → walkFrom s place recs ≡ Refused r → FirstRecord r s place recs
-unfolding walkFrom judgedNext
-walk-to r s place [] e = absurd (never (sym e))
-walk-to r s place (rec ∷ recs) e = by (first-to r (judgedNext s place rec ∷ walkFrom (seenWith s rec) (place + 1) recs ∷ []) e) (λ q. walk-to r (seenWith s rec) (place + 1) recs q)
-  where
-    by : First r (judgedNext s place rec ∷ walkFrom (seenWith s rec) (place + 1) recs ∷ [])
-        → (walkFrom (seenWith s rec) (place + 1) recs ≡ Refused r → FirstRecord r (seenWith s rec) (place + 1) recs) → FirstRecord r s place (rec ∷ recs)
-    by (here q) ih = let f = first-to r (stagesAfter s place rec) q in at (stages-place s place rec r f) f
-    by (there a (here q)) ih = behind (all-to (stagesAfter s place rec) a) (ih q)
+module _ (ahead : List (List ℕ)) (r : Refusal) where
+  walk-to : (s : Seen) (place : ℕ) (recs : List (List ℕ)) → walkFrom ahead s place recs ≡ Refused r → FirstRecord ahead r s place recs
+  unfolding walkFrom judgedNext
+  walk-to s place [] e = absurd (never (sym e))
+  walk-to s place (rec ∷ recs) e =
+      by (first-to r (judgedNext s place (endsRoute rec (recs ++ ahead)) rec ∷ walkFrom ahead (seenWith s rec) (place + 1) recs ∷ []) e)
+      (λ q. walk-to (seenWith s rec) (place + 1) recs q)
+    where
+      by : First r (judgedNext s place (endsRoute rec (recs ++ ahead)) rec ∷ walkFrom ahead (seenWith s rec) (place + 1) recs ∷ [])
+          → (walkFrom ahead (seenWith s rec) (place + 1) recs ≡ Refused r → FirstRecord ahead r (seenWith s rec) (place + 1) recs) → FirstRecord ahead r s place (rec ∷ recs)
+      by (here q) ih =
+          let f = first-to r (stagesAfter s place (endsRoute rec (recs ++ ahead)) rec) q in at (stages-place s place (endsRoute rec (recs ++ ahead)) rec r f) f
+      by (there a (here q)) ih = behind (all-to (stagesAfter s place (endsRoute rec (recs ++ ahead)) rec) a) (ih q)
 
-walk-from : (r : Refusal) {s : Seen} {place : ℕ} {recs : List (List ℕ)} → FirstRecord r s place recs → walkFrom s place recs ≡ Refused r
-unfolding walkFrom judgedNext
-walk-from r (at _ f) = first-from r (here (first-from r f))
-walk-from r (behind a f) = first-from r (there (all-from a) (here (walk-from r f)))
+  walk-from : {s : Seen} {place : ℕ} {recs : List (List ℕ)} → FirstRecord ahead r s place recs → walkFrom ahead s place recs ≡ Refused r
+  unfolding walkFrom judgedNext
+  walk-from (at _ f) = first-from r (here (first-from r f))
+  walk-from (behind a f) = first-from r (there (all-from a) (here (walk-from f)))
 
--- records in sequence are refused exactly by the first stage that fails at the first record at which one does
-pub walk-refuses : (r : Refusal) (s : Seen) (place : ℕ) (recs : List (List ℕ)) → (walkFrom s place recs ≡ Refused r) ↔ FirstRecord r s place recs
-walk-refuses r s place recs = (walk-to r s place recs, walk-from r)
+  -- records in sequence are refused exactly by the first stage that fails at the first record at which one does
+  pub walk-refuses : (s : Seen) (place : ℕ) (recs : List (List ℕ)) → (walkFrom ahead s place recs ≡ Refused r) ↔ FirstRecord ahead r s place recs
+  walk-refuses s place recs = (walk-to s place recs, walk-from)
 
 -- .. or, where none fails, by the continuation that is missing at the end
-pub walked-refuses : (r : Refusal) (recs : List (List ℕ)) → (walked recs ≡ Refused r) ↔ First r (walkFrom nothing 1 recs ∷ finished recs ∷ [])
+pub walked-refuses : (r : Refusal) (recs : List (List ℕ)) → (walked recs ≡ Refused r) ↔ First r (walkFrom [] nothing 1 recs ∷ finished recs ∷ [])
 unfolding walked
-walked-refuses r recs = first-iff r (walkFrom nothing 1 recs ∷ finished recs ∷ [])
+walked-refuses r recs = first-iff r (walkFrom [] nothing 1 recs ∷ finished recs ∷ [])
 
 -- a file by its size, by the first record that fails, by its tail, or by the continuation that is missing, in this order
 pub file-refuses : (r : Refusal) (f : List ℕ) → (fileVerdict f ≡ Refused r)
-    ↔ First r (sizeStage f ∷ walkFrom nothing 1 (records f) ∷ tailStage (length f) (length (records f)) ∷ finished (records f) ∷ [])
+    ↔ First r (sizeStage f ∷ walkFrom (behindRecords f) nothing 1 (records f) ∷ tailStage (length f) (length (records f)) ∷ finished (records f) ∷ [])
 unfolding fileVerdict
-file-refuses r f = first-iff r (sizeStage f ∷ walkFrom nothing 1 (records f) ∷ tailStage (length f) (length (records f)) ∷ finished (records f) ∷ [])
+file-refuses r f =
+    first-iff r (sizeStage f ∷ walkFrom (behindRecords f) nothing 1 (records f) ∷ tailStage (length f) (length (records f)) ∷ finished (records f) ∷ [])

@@ -34,9 +34,10 @@ unfolding inTurn
 in-turn-cons Accepted vs = alone (inTurn vs)
 in-turn-cons (Refused r) vs = refl
 
--- three, as the code takes them
-pub three-in-turn : (u v w : Verdict) {x r : Verdict} → x ≡ inTurn (v ∷ w ∷ []) → r ≡ inTurn (u ∷ x ∷ []) → r ≡ inTurn (u ∷ v ∷ w ∷ [])
-three-in-turn u v w p e = e ∙ rw p (in-turn-cons u (v ∷ w ∷ []))
+-- four, as the code takes them
+pub four-in-turn : (t u v w : Verdict) {x y r : Verdict} → x ≡ inTurn (v ∷ w ∷ []) → y ≡ inTurn (u ∷ x ∷ []) → r ≡ inTurn (t ∷ y ∷ [])
+    → r ≡ inTurn (t ∷ u ∷ v ∷ w ∷ [])
+four-in-turn t u v w p q e = e ∙ rw (q, p, in-turn-cons u (v ∷ w ∷ [])) (in-turn-cons t (u ∷ v ∷ w ∷ []))
 
 pub accepts-iff : (v : Verdict) (vs : List Verdict) → (inTurn (v ∷ vs) ≡ Accepted) ↔ ((v ≡ Accepted) × (inTurn vs ≡ Accepted))
 unfolding inTurn
@@ -51,4 +52,11 @@ four-accept u v w x = (
       let s = accepts-iff w (x ∷ []) .0 (q .1) in
       (p .0, q .0, s .0, sym (alone x) ∙ s .1),
   λ (p, q, s, t). accepts-iff u (v ∷ w ∷ x ∷ []) .1 (p, accepts-iff v (w ∷ x ∷ []) .1 (q, accepts-iff w (x ∷ []) .1 (s, alone x ∙ t))),
+)
+
+pub five-accept : (t u v w x : Verdict) → (inTurn (t ∷ u ∷ v ∷ w ∷ x ∷ []) ≡ Accepted)
+    ↔ ((t ≡ Accepted) × (u ≡ Accepted) × (v ≡ Accepted) × (w ≡ Accepted) × (x ≡ Accepted))
+five-accept t u v w x = (
+  λ e. let p = accepts-iff t (u ∷ v ∷ w ∷ x ∷ []) .0 e in let q = four-accept u v w x .0 (p .1) in (p .0, q .0, q .1, q .2, q .3),
+  λ (p, q, r, s, z). accepts-iff t (u ∷ v ∷ w ∷ x ∷ []) .1 (p, four-accept u v w x .1 (q, r, s, z)),
 )

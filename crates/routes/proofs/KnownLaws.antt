@@ -3,7 +3,7 @@
 -- Assumes nothing.
 use mathlib.Core.Path.{_≡_, refl, sym, ap, ap₂, subst, _∙_}
 use mathlib.Core.Bool.{Bool, true, false}
-use mathlib.Core.List.{List, [], _∷_, map}
+use mathlib.Core.List.{List, [], _∷_, _++_, map}
 use Prim.Native.Nat.{ℕ, _+_, _-_, _/_, _≤_, _<_}
 use native.Mathlib.Omega.{arith}
 use native.Mathlib.Decide.{decLt}
@@ -22,7 +22,7 @@ use Rattle.leg.proofs.Legality.{accepted-iff}
 use Rattle.routes.specs.InTurn.{inTurn}
 use Rattle.routes.specs.Sources.{firstOfLog, recordAt, sourcesIn, recordsIn}
 use Rattle.routes.specs.Stages.{Seen, nothing}
-use Rattle.routes.specs.Walk.{stagesBehind, judgedBehind, judgedNext, seenWith, walkFrom, finished, walked}
+use Rattle.routes.specs.Walk.{endsRoute, stagesBehind, judgedBehind, judgedNext, seenWith, walkFrom, finished, walked}
 use Rattle.routes.specs.Known.{slot, knows, keptIf, learned, Known, judgedKnowing, walkKnowing, walkedKnowing}
 use Rattle.routes.specs.declared.Sources.{Sources}
 use Rattle.routes.proofs.InTurnLaws.{first-accepts, in-turn-cons}
@@ -112,29 +112,32 @@ module _ (f l : List ℕ) where
 
 -- ---- the walk that asks it
 
-pub judges-known : (s : Seen) (place : ℕ) (rec : List ℕ) {b : Bool} → b ≡ true → judgedBehind s place rec ≡ judgedKnowing b s place rec
+pub judges-known : (s : Seen) (place : ℕ) (last : Bool) (rec : List ℕ) {b : Bool} → b ≡ true → judgedBehind s place last rec ≡ judgedKnowing b s place last rec
 unfolding judgedKnowing
-judges-known s place rec e = rw e
+judges-known s place last rec e = rw e
 
-pub judges-unknown : (s : Seen) (place : ℕ) (rec : List ℕ) {b : Bool} {v : Verdict} → b ≡ false
-    → v ≡ inTurn (judged place rec ∷ judgedBehind s place rec ∷ []) → v ≡ judgedKnowing b s place rec
+pub judges-unknown : (s : Seen) (place : ℕ) (last : Bool) (rec : List ℕ) {b : Bool} {v : Verdict} → b ≡ false
+    → v ≡ inTurn (judged place rec ∷ judgedBehind s place last rec ∷ []) → v ≡ judgedKnowing b s place last rec
 unfolding judgedKnowing judgedNext judgedBehind
-judges-unknown s place rec e q = q ∙ rw e (in-turn-cons (judged place rec) (stagesBehind s place rec))
+judges-unknown s place last rec e q = q ∙ rw e (in-turn-cons (judged place rec) (stagesBehind s place last rec))
 
 module _ (f l : List ℕ) {known : List ℕ} (k : Known f l known) where
   -- one record, by whether the table knows it
-  next-known : (s : Seen) (place : ℕ) (x : ℕ) (b : Bool) → knows known x ≡ b → judgedKnowing b s place (recordAt f l x) ≡ judgedNext s place (recordAt f l x)
+  next-known : (s : Seen) (place : ℕ) (last : Bool) (x : ℕ) (b : Bool) → knows known x ≡ b
+      → judgedKnowing b s place last (recordAt f l x) ≡ judgedNext s place last (recordAt f l x)
   unfolding judgedKnowing judgedNext judgedBehind
-  next-known s place x true e = rw (accepted-iff (recordAt f l x) place .1 (k .legal x e)) (sym (first-accepts (stagesBehind s place (recordAt f l x))))
-  next-known s place x false e = refl
+  next-known s place last x true e = rw (accepted-iff (recordAt f l x) place .1 (k .legal x e)) (sym (first-accepts (stagesBehind s place last (recordAt f l x))))
+  next-known s place last x false e = refl
 
-  pub walk-known : (s : Seen) (place : ℕ) (xs : List ℕ) → walkKnowing known f l s place xs ≡ walkFrom s place (map (recordAt f l) xs)
+  pub walk-known : (ahead : List (List ℕ)) (s : Seen) (place : ℕ) (xs : List ℕ) → walkKnowing known f l ahead s place xs ≡ walkFrom ahead s place (map (recordAt f l) xs)
   unfolding walkKnowing walkFrom
-  walk-known s place [] = refl
-  walk-known s place (x ∷ xs) =
-      ap₂ (λ (v w : Verdict). inTurn (v ∷ w ∷ [])) (next-known s place x (knows known x) refl) (walk-known (seenWith s (recordAt f l x)) (place + 1) xs)
+  walk-known ahead s place [] = refl
+  walk-known ahead s place (x ∷ xs) =
+      ap₂ (λ (v w : Verdict). inTurn (v ∷ w ∷ []))
+      (next-known s place (endsRoute (recordAt f l x) (map (recordAt f l) xs ++ ahead)) x (knows known x) refl)
+      (walk-known ahead (seenWith s (recordAt f l x)) (place + 1) xs)
 
   pub walked-known : (sources : Sources) (from to : ℕ) → walkedKnowing known f l (sourcesIn sources from to) ≡ walked (recordsIn f l sources from to)
   unfolding walkedKnowing walked recordsIn
   walked-known sources from to =
-      ap (λ (v : Verdict). inTurn (v ∷ finished (map (recordAt f l) (sourcesIn sources from to)) ∷ [])) (walk-known nothing 1 (sourcesIn sources from to))
+      ap (λ (v : Verdict). inTurn (v ∷ finished (map (recordAt f l) (sourcesIn sources from to)) ∷ [])) (walk-known [] nothing 1 (sourcesIn sources from to))

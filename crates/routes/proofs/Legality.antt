@@ -2,7 +2,7 @@
 -- Assumes nothing.
 use mathlib.Core.Path.{_≡_, refl, sym, ap, ap₂, subst, _∙_}
 use mathlib.Core.Logic.{_↔_, _⊎_, inl, inr, ⊎-elim}
-use mathlib.Core.Bool.{Bool, true, false, _&&_, false≢true}
+use mathlib.Core.Bool.{Bool, true, false, not, _&&_, _||_, false≢true}
 use mathlib.Core.List.{List, [], _∷_, _++_, map, append-assoc, List·Memᴰ·cases-cons, List·Memᴰ·eq-of-singleton}
 use Prim.Native.Nat.{ℕ, _≤_}
 use native.Mathlib.Omega.{arith}
@@ -10,7 +10,9 @@ use lib.Dec.{eqb}
 use lib.ListN.{length, take}
 use borrow.Author.Tests.{eqb-true, eq-eqb, ne-eqb}
 use Rattle.slices.specs.Part.{part}
+use Rattle.slices.specs.Order.{equal}
 use Rattle.slices.proofs.Cases.{and-left, and-right}
+use Rattle.slices.proofs.OrderLaws.{equal-iff}
 use Rattle.columns.specs.ByteSets.{fits}
 use Rattle.columns.specs.Patterns.{codes, each}
 use Rattle.columns.specs.Rows.{byteIn}
@@ -20,15 +22,15 @@ use Rattle.columns.specs.declared.Kind.the-variants.{Primary, Continuation}
 use Rattle.columns.proofs.Content.{primary-kind, continuation-kind}
 use Rattle.refusals.specs.declared.Verdict.the-variants.{Accepted}
 use Rattle.leg.specs.Legal.{Legal, LegalLeg}
-use Rattle.routes.specs.Pairs.{terminatorIn, firstLeg, pair}
+use Rattle.routes.specs.Pairs.{terminatorIn, firstLeg, lastLeg, pair}
 use Rattle.routes.specs.Stages.{Seen, seen, numberAfter, awaits}
-use Rattle.routes.specs.Walk.{walked}
+use Rattle.routes.specs.Walk.{isPrimary, followed, endsRoute, walked}
 use Rattle.routes.specs.Files.{fileVerdict}
 use Rattle.routes.specs.Places.{keyOf, sequenceOf, Before, Every, Rising}
-use Rattle.routes.specs.Legal.{LegRecords, Route, recordsOfLegs, recordsOfRoutes, numbers, RightLeg, Neighbours, Follows, RightRoute, RightRoutes, lines, LegalFile}
-use Rattle.routes.proofs.PairLaws.{first-leg-iff, pair-iff}
+use Rattle.routes.specs.Legal.{LegRecords, Route, recordsOfLegs, recordsOfRoutes, numbers, RightLeg, Neighbours, Follows, MayEnd, finalLeg, RightRoute, RightRoutes, lines, LegalFile}
+use Rattle.routes.proofs.PairLaws.{first-leg-iff, last-leg-iff, pair-iff}
 use Rattle.routes.proofs.Steps.{Next, begins, follows, continues, Rest, done, more, walked-iff}
-use Rattle.routes.proofs.PlaceLaws.{nothing-before, not-nothing, continuation-number, rising-cons}
+use Rattle.routes.proofs.PlaceLaws.{head-key, nothing-before, not-nothing, continuation-number, rising-cons}
 use Rattle.routes.proofs.Routes.{after-primary, after-continuation, rest-at, none-awaited, after-none}
 use Rattle.routes.proofs.Lines.{file-iff}
 
@@ -56,17 +58,22 @@ ContinuationsAfter p b (c ∷ cs) =
 abbrev Whole : LegRecords → Type 0
 Whole l = LegalLeg (l .primary) × ContinuationsAfter (l .primary) (l .primary) (l .continuations)
 
+-- a leg that has no other behind it in its route may end it
+abbrev EndsBefore : LegRecords → List LegRecords → Type 0
+EndsBefore l [] = lastLeg (l .primary) ≡ true
+EndsBefore l (m ∷ ms) = Unit {0}
+
 abbrev LegsAfter : List ℕ → List LegRecords → Type 0
 LegsAfter p [] = Unit {0}
 LegsAfter p (l ∷ ls) =
     Whole l × (keyOf p ≡ keyOf (l .primary)) × Before (sequenceOf p) (sequenceOf (l .primary))
-    × (pair (terminatorIn p) (terminatorIn (l .primary)) ≡ true) × LegsAfter (l .primary) ls
+    × (pair (terminatorIn p) (terminatorIn (l .primary)) ≡ true) × EndsBefore l ls × LegsAfter (l .primary) ls
 
 abbrev RoutesAfter : List ℕ → List Route → Type 0
 RoutesAfter k [] = Unit {0}
 RoutesAfter k (r ∷ rs) =
     Whole (r .first) × Before k (keyOf (r .first .primary)) × (firstLeg (r .first .primary) ≡ true)
-    × LegsAfter (r .first .primary) (r .others) × RoutesAfter (keyOf (r .first .primary)) rs
+    × EndsBefore (r .first) (r .others) × LegsAfter (r .first .primary) (r .others) × RoutesAfter (keyOf (r .first .primary)) rs
 
 record Parts (p b : List ℕ) (rs : List (List ℕ)) : Type 0 where
   continuations : List (List ℕ)
@@ -76,6 +83,44 @@ record Parts (p b : List ℕ) (rs : List (List ℕ)) : Type 0 where
   continued : ContinuationsAfter p b continuations
   followed : LegsAfter p legs
   later : RoutesAfter (keyOf p) routes
+
+-- ---- whether a leg follows within the route
+
+module _ (k q : List ℕ) (rs : List (List ℕ)) where
+  -- none where the next record is of another route
+  ended-by : Before k (keyOf q) → followed k (q ∷ rs) ≡ false
+  unfolding followed equal
+  ended-by h = rw h
+
+  -- past a continuation of the route
+  looked-past : k ≡ keyOf q → kindOf q ≡ Continuation → followed k (q ∷ rs) ≡ followed k rs
+  unfolding followed
+  looked-past e c = rw (equal-iff k (keyOf q) .1 e, c)
+
+  -- one, where that record is a primary of it
+  followed-by : k ≡ keyOf q → kindOf q ≡ Primary → followed k (q ∷ rs) ≡ true
+  unfolding followed
+  followed-by e c = rw (equal-iff k (keyOf q) .1 e, c)
+
+past-continuations : (p b : List ℕ) (cs rs : List (List ℕ)) → ContinuationsAfter p b cs → followed (keyOf p) (cs ++ rs) ≡ followed (keyOf p) rs
+past-continuations p b [] rs x = refl
+past-continuations p b (c ∷ cs) rs (k, n, h, x) =
+    looked-past (keyOf p) c (cs ++ rs) (head-key p c h) (continuation-kind c k) ∙ past-continuations p c cs rs x
+
+no-leg-behind : (k : List ℕ) (rs : List Route) → RoutesAfter k rs → followed k (recordsOfRoutes rs) ≡ false
+unfolding followed
+no-leg-behind k [] x = refl
+no-leg-behind k (r ∷ rs) x =
+    ended-by k (r .first .primary) ((r .first .continuations ++ recordsOfLegs (r .others)) ++ recordsOfRoutes rs) (x .1)
+
+-- the last leg of its route, and one that is not
+is-last : (p : List ℕ) (rs : List (List ℕ)) → kindOf p ≡ Primary → followed (keyOf p) rs ≡ false → endsRoute p rs ≡ true
+unfolding endsRoute
+is-last p rs k e = rw (k, e)
+
+is-not-last : (p : List ℕ) (rs : List (List ℕ)) → kindOf p ≡ Primary → followed (keyOf p) rs ≡ true → endsRoute p rs ≡ false
+unfolding endsRoute
+is-not-last p rs k e = rw (k, e)
 
 -- ---- from an accepted walk to its parts
 
@@ -87,6 +132,18 @@ regroup r xs ys zs rs e = ap (λ (l : List (List ℕ)). r ∷ l) (e ∙ sym (app
 
 parts-at : {p q b : List ℕ} {rs : List (List ℕ)} → p ≡ q → Parts p b rs → Parts q b rs
 parts-at {b = b} {rs = rs} e x = subst (λ (l : List ℕ). Parts l b rs) e x
+
+module _ (r : List ℕ) (rs : List (List ℕ)) (k : kindOf r ≡ Primary) (ends : endsRoute r rs ≡ true → lastLeg r ≡ true) where
+  part-ends : (x : Parts r r rs) → EndsBefore (leg r (x .continuations)) (x .legs)
+  part-ends x = by (x .legs) (x .parts)
+    where
+      by : (ls : List LegRecords) → rs ≡ x .continuations ++ (recordsOfLegs ls ++ recordsOfRoutes (x .routes)) → EndsBefore (leg r (x .continuations)) ls
+      by (m ∷ ms) e = tt
+      by [] e =
+          ends
+          (is-last r rs k
+          (ap (followed (keyOf r)) e ∙ past-continuations r r (x .continuations) (recordsOfRoutes (x .routes)) (x .continued)
+          ∙ no-leg-behind (keyOf r) (x .routes) (x .later)))
 
 module _ (s : Seen) (r : List ℕ) (rs : List (List ℕ)) where
   part-continues : ContinuationContent r → byteIn 39 r ≡ numberAfter (byteIn 39 (s .before)) → columns 1 38 (s .primary) ≡ columns 1 38 r → Parts (s .primary) r rs
@@ -102,34 +159,37 @@ module _ (s : Seen) (r : List ℕ) (rs : List (List ℕ)) where
   }
 
   part-follows : LegalLeg r → awaits 39 (s .before) ≡ false → keyOf (s .primary) ≡ keyOf r → Before (sequenceOf (s .primary)) (sequenceOf r)
-      → pair (terminatorIn (s .primary)) (terminatorIn r) ≡ true → Parts r r rs → Parts (s .primary) (s .before) (r ∷ rs)
-  part-follows l a k q f x = record {
+      → pair (terminatorIn (s .primary)) (terminatorIn r) ≡ true → (x : Parts r r rs) → EndsBefore (leg r (x .continuations)) (x .legs)
+      → Parts (s .primary) (s .before) (r ∷ rs)
+  part-follows l a k q f x d = record {
     continuations = [];
     legs = leg r (x .continuations) ∷ x .legs;
     routes = x .routes;
     parts = regroup r (x .continuations) (recordsOfLegs (x .legs)) (recordsOfRoutes (x .routes)) rs (x .parts);
     continued = a;
-    followed = ((l, x .continued), k, q, f, x .followed);
+    followed = ((l, x .continued), k, q, f, d, x .followed);
     later = subst (λ (y : List ℕ). RoutesAfter y (x .routes)) (sym k) (x .later);
   }
 
-  part-begins : LegalLeg r → awaits 39 (s .before) ≡ false → Before (keyOf (s .primary)) (keyOf r) → firstLeg r ≡ true → Parts r r rs
-      → Parts (s .primary) (s .before) (r ∷ rs)
-  part-begins l a b f x = record {
+  part-begins : LegalLeg r → awaits 39 (s .before) ≡ false → Before (keyOf (s .primary)) (keyOf r) → firstLeg r ≡ true → (x : Parts r r rs)
+      → EndsBefore (leg r (x .continuations)) (x .legs) → Parts (s .primary) (s .before) (r ∷ rs)
+  part-begins l a b f x d = record {
     continuations = [];
     legs = [];
     routes = record { first = leg r (x .continuations); others = x .legs } ∷ x .routes;
     parts = regroup r (x .continuations) (recordsOfLegs (x .legs)) (recordsOfRoutes (x .routes)) rs (x .parts);
     continued = a;
     followed = tt;
-    later = ((l, x .continued), b, f, x .followed, x .later);
+    later = ((l, x .continued), b, f, d, x .followed, x .later);
   }
 
 to-parts : {s : Seen} {rs : List (List ℕ)} → Rest s rs → Parts (s .primary) (s .before) rs
 to-parts (done a) = record { continuations = []; legs = []; routes = []; parts = refl; continued = a; followed = tt; later = tt }
-to-parts (more {s} {r} {rs} (begins l k a b f) t) = part-begins s r rs (legal-primary r l k) a b f (parts-at (after-primary (s .primary) r k) (to-parts t))
-to-parts (more {s} {r} {rs} (follows l k a b q f) t) = part-follows s r rs (legal-primary r l k) a b q f (parts-at (after-primary (s .primary) r k) (to-parts t))
-to-parts (more {s} {r} {rs} (continues l k n h) t) = part-continues s r rs (legal-continuation r l k) n h (parts-at (after-continuation (s .primary) r k) (to-parts t))
+to-parts (more {s} {r} {rs} (begins l k a b f) h t) =
+    let x = parts-at (after-primary (s .primary) r k) (to-parts t) in part-begins s r rs (legal-primary r l k) a b f x (part-ends r rs k h x)
+to-parts (more {s} {r} {rs} (follows l k a b q f) h t) =
+    let x = parts-at (after-primary (s .primary) r k) (to-parts t) in part-follows s r rs (legal-primary r l k) a b q f x (part-ends r rs k h x)
+to-parts (more {s} {r} {rs} (continues l k n e) h t) = part-continues s r rs (legal-continuation r l k) n e (parts-at (after-continuation (s .primary) r k) (to-parts t))
 
 -- ---- from the parts to an accepted walk
 
@@ -137,34 +197,52 @@ to-parts (more {s} {r} {rs} (continues l k n h) t) = part-continues s r rs (lega
 abbrev After : List ℕ → List (List ℕ) → Type 0
 After p rs = (b : List ℕ) → awaits 39 b ≡ false → Rest (seen p b) rs
 
+-- a continuation is no leg, and so not the last one
+no-leg : (c : List ℕ) (rs : List (List ℕ)) → kindOf c ≡ Continuation → endsRoute c rs ≡ false
+unfolding endsRoute
+no-leg c rs k = rw k
+
 continuations-then : (p b : List ℕ) (cs rs : List (List ℕ)) → ContinuationsAfter p b cs → After p rs → Rest (seen p b) (cs ++ rs)
 continuations-then p b [] rs a f = f b a
 continuations-then p b (c ∷ cs) rs (k, n, h, x) f =
-    more (continues (inr k) (continuation-kind c k) n h)
+    more (continues (inr k) (continuation-kind c k) n h) (λ e. absurd (false≢true (sym (no-leg c (cs ++ rs) (continuation-kind c k)) ∙ e)))
     (rest-at (ap (λ (l : List ℕ). seen l c) (sym (after-continuation p c (continuation-kind c k)))) (continuations-then p c cs rs x f))
 
 -- a primary that comes next, and its continuations
-leg-then : (s : Seen) (l : LegRecords) (rs : List (List ℕ)) → Whole l → (kindOf (l .primary) ≡ Primary → Next s (l .primary)) → After (l .primary) rs
+leg-then : (s : Seen) (l : LegRecords) (rs : List (List ℕ)) → Whole l → (kindOf (l .primary) ≡ Primary → Next s (l .primary))
+    → (endsRoute (l .primary) (l .continuations ++ rs) ≡ true → lastLeg (l .primary) ≡ true) → After (l .primary) rs
     → Rest s ((l .primary ∷ l .continuations) ++ rs)
-leg-then s l rs (w, x) n f =
+leg-then s l rs (w, x) n h f =
     let k = primary-kind (l .primary) (w .content) in
-    more (n k)
+    more (n k) h
     (rest-at (ap (λ (y : List ℕ). seen y (l .primary)) (sym (after-primary (s .primary) (l .primary) k))) (continuations-then (l .primary) (l .primary) (l .continuations) rs x f))
+
+-- a leg that may end its route where no other is behind it
+leg-ends : (l : LegRecords) (ls : List LegRecords) (rs : List (List ℕ)) → Whole l → EndsBefore l ls → LegsAfter (l .primary) ls
+    → endsRoute (l .primary) (l .continuations ++ (recordsOfLegs ls ++ rs)) ≡ true → lastLeg (l .primary) ≡ true
+leg-ends l [] rs w d x e = d
+leg-ends l (m ∷ ms) rs w d x e =
+    let behind : followed (keyOf (l .primary)) (l .continuations ++ (recordsOfLegs (m ∷ ms) ++ rs)) ≡ true =
+    past-continuations (l .primary) (l .primary) (l .continuations) (recordsOfLegs (m ∷ ms) ++ rs) (w .1)
+    ∙ followed-by (keyOf (l .primary)) (m .primary) ((m .continuations ++ recordsOfLegs ms) ++ rs) (x .1) (primary-kind (m .primary) (x .0 .0 .content)) in
+    absurd (false≢true (sym (is-not-last (l .primary) (l .continuations ++ (recordsOfLegs (m ∷ ms) ++ rs)) (primary-kind (l .primary) (w .0 .content)) behind) ∙ e))
 
 -- the rest of a route, then what follows after any primary of it
 legs-then : (p : List ℕ) (ls : List LegRecords) (rs : List (List ℕ)) → LegsAfter p ls → ((q : List ℕ) → keyOf p ≡ keyOf q → After q rs) → After p (recordsOfLegs ls ++ rs)
 legs-then p [] rs x f b a = f p refl b a
-legs-then p (l ∷ ls) rs (w, k, q, u, x) f b a =
+legs-then p (l ∷ ls) rs (w, k, q, u, d, x) f b a =
     rw (append-assoc (l .primary ∷ l .continuations) (recordsOfLegs ls) rs)
-    (leg-then (seen p b) l (recordsOfLegs ls ++ rs) w (λ o. follows (inl (w .0)) o a k q u) (legs-then (l .primary) ls rs x (λ m e. f m (k ∙ e))))
+    (leg-then (seen p b) l (recordsOfLegs ls ++ rs) w (λ o. follows (inl (w .0)) o a k q u) (leg-ends l ls rs w d x)
+    (legs-then (l .primary) ls rs x (λ m e. f m (k ∙ e))))
 
 routes-then : (k p : List ℕ) (rs : List Route) → RoutesAfter k rs → k ≡ keyOf p → After p (recordsOfRoutes rs)
 routes-then k p [] x e b a = done a
-routes-then k p (r ∷ rs) (w, h, u, x, y) e b a =
+routes-then k p (r ∷ rs) (w, h, u, d, x, y) e b a =
     rw (append-assoc (r .first .primary ∷ r .first .continuations) (recordsOfLegs (r .others)) (recordsOfRoutes rs))
     (leg-then (seen p b) (r .first) (recordsOfLegs (r .others) ++ recordsOfRoutes rs) w
     (λ o. begins (inl (w .0)) o a (subst (λ (z : List ℕ). Before z (keyOf (r .first .primary))) e h) u)
-    (legs-then (r .first .primary) (r .others) (recordsOfRoutes rs) x (λ m d. routes-then (keyOf (r .first .primary)) m rs y d)))
+    (leg-ends (r .first) (r .others) (recordsOfRoutes rs) w d x)
+    (legs-then (r .first .primary) (r .others) (recordsOfRoutes rs) x (λ m q. routes-then (keyOf (r .first .primary)) m rs y q)))
 
 -- ---- the numbers of a leg's continuations
 
@@ -279,16 +357,22 @@ record Others (f : LegRecords) (ls : List LegRecords) : Type 0 where
   together : Every (λ l. keyOf (f .primary) ≡ keyOf (l .primary)) ls
   rising : Rising (map (λ l. sequenceOf (l .primary)) (f ∷ ls))
   pairs : Neighbours Follows (f ∷ ls)
+  ends : MayEnd (finalLeg f ls)
 
-legs-to : (f : LegRecords) (ls : List LegRecords) → LegalLeg (f .primary) → LegsAfter (f .primary) ls → Others f ls
-legs-to f [] h x = record { legs = tt; together = tt; rising = (tt, tt); pairs = tt }
-legs-to f (l ∷ ls) h (w, k, q, u, x) =
-    let i = legs-to l ls (w .0) x in
+ends-from : (f : LegRecords) (ls : List LegRecords) → LegalLeg (f .primary) → MayEnd (finalLeg f ls) → EndsBefore f ls
+ends-from f [] h m = last-leg-iff f h .1 m
+ends-from f (l ∷ ls) h m = tt
+
+legs-to : (f : LegRecords) (ls : List LegRecords) → LegalLeg (f .primary) → EndsBefore f ls → LegsAfter (f .primary) ls → Others f ls
+legs-to f [] h d x = record { legs = tt; together = tt; rising = (tt, tt); pairs = tt; ends = last-leg-iff f h .0 d }
+legs-to f (l ∷ ls) h d (w, k, q, u, e, x) =
+    let i = legs-to l ls (w .0) e x in
     record {
       legs = (whole-iff l .0 w, i .legs);
       together = (k, every-same (keyOf (f .primary)) (keyOf (l .primary)) ls k (i .together));
       rising = rising-cons (sequenceOf (f .primary)) (sequenceOf (l .primary)) (map (λ m. sequenceOf (m .primary)) ls) q (i .rising);
       pairs = (pair-iff f l h (w .0) .0 u, i .pairs);
+      ends = i .ends;
     }
 
 legs-from : (f : LegRecords) (ls : List LegRecords) → LegalLeg (f .primary) → Others f ls → LegsAfter (f .primary) ls
@@ -298,40 +382,45 @@ legs-from f (l ∷ ls) h o = (
   o .together .0,
   o .rising .0 .0,
   pair-iff f l h (o .legs .0 .legal) .1 (o .pairs .0),
+  ends-from l ls (o .legs .0 .legal) (o .ends),
   legs-from l ls (o .legs .0 .legal) (record {
     legs = o .legs .1;
     together = every-same (keyOf (l .primary)) (keyOf (f .primary)) ls (sym (o .together .0)) (o .together .1);
     rising = o .rising .1;
     pairs = o .pairs .1;
+    ends = o .ends;
   }),
 )
 
-route-to : (r : Route) → Whole (r .first) → firstLeg (r .first .primary) ≡ true → LegsAfter (r .first .primary) (r .others) → RightRoute r
-route-to r w u x =
-    let i = legs-to (r .first) (r .others) (w .0) x in
+route-to : (r : Route) → Whole (r .first) → firstLeg (r .first .primary) ≡ true → EndsBefore (r .first) (r .others) → LegsAfter (r .first .primary) (r .others) → RightRoute r
+route-to r w u d x =
+    let i = legs-to (r .first) (r .others) (w .0) d x in
     record {
       legs = (whole-iff (r .first) .0 w, i .legs);
       together = i .together;
       rising = i .rising;
-      begins = first-leg-iff (r .first .primary) (w .0) .0 u;
+      begins = first-leg-iff (r .first) (w .0) .0 u;
       pairs = i .pairs;
+      ends = i .ends;
     }
 
 -- ---- routes
 
 routes-to : (k : List ℕ) (rs : List Route) → RoutesAfter k rs → Every RightRoute rs × Rising (k ∷ map (λ r. keyOf (r .first .primary)) rs)
 routes-to k [] x = (tt, (tt, tt))
-routes-to k (r ∷ rs) (w, h, u, x, y) =
+routes-to k (r ∷ rs) (w, h, u, d, x, y) =
     let i = routes-to (keyOf (r .first .primary)) rs y in
-    ((route-to r w u x, i .0), rising-cons k (keyOf (r .first .primary)) (map (λ q. keyOf (q .first .primary)) rs) h (i .1))
+    ((route-to r w u d x, i .0), rising-cons k (keyOf (r .first .primary)) (map (λ q. keyOf (q .first .primary)) rs) h (i .1))
 
 routes-from : (k : List ℕ) (rs : List Route) → Every RightRoute rs → Rising (k ∷ map (λ r. keyOf (r .first .primary)) rs) → RoutesAfter k rs
 routes-from k [] e u = tt
 routes-from k (r ∷ rs) (x, e) u = (
   whole-iff (r .first) .1 (x .legs .0),
   u .0 .0,
-  first-leg-iff (r .first .primary) (x .legs .0 .legal) .1 (x .begins),
-  legs-from (r .first) (r .others) (x .legs .0 .legal) (record { legs = x .legs .1; together = x .together; rising = x .rising; pairs = x .pairs }),
+  first-leg-iff (r .first) (x .legs .0 .legal) .1 (x .begins),
+  ends-from (r .first) (r .others) (x .legs .0 .legal) (x .ends),
+  legs-from (r .first) (r .others) (x .legs .0 .legal)
+      (record { legs = x .legs .1; together = x .together; rising = x .rising; pairs = x .pairs; ends = x .ends }),
   routes-from (keyOf (r .first .primary)) rs e (u .1),
 )
 

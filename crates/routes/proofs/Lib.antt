@@ -2,6 +2,7 @@
 pub mod InTurnLaws
 pub mod SourceLaws
 pub mod KnownLaws
+pub mod TableLaws
 pub mod PairLaws
 pub mod FileLaws
 pub mod Steps

@@ -3,10 +3,10 @@
 use mathlib.Core.Path.{_≡_, refl, sym, ap, _∙_}
 use mathlib.Core.Logic.{_↔_}
 use mathlib.Core.List.{List, [], _∷_, _++_, map, append-nil, append-assoc}
-use Prim.Native.Nat.{ℕ, zero, suc, _+_, _-_, _*_, _≤_}
+use Prim.Native.Nat.{ℕ, zero, suc, _+_, _-_, _*_, _/_, _≤_}
 use native.Mathlib.Omega.{arith}
 use lib.Dec.{eqb, leb, ltb}
-use lib.ListN.{length, getD, take, drop, take-append-drop, length-append, drop-of-length-le}
+use lib.ListN.{length, getD, take, drop, take-append-drop, length-append, length-map, drop-of-length-le}
 use lib.Seq.{drop-drop, drop-cons, take-at, getD-at, drop-append-add, length-take-le}
 use borrow.Author.Tests.{le-leb, leb-true, eqb-true}
 use Rattle.slices.proofs.Cases.{split}
@@ -14,14 +14,14 @@ use Rattle.refusals.specs.Table.{cutShort}
 use Rattle.refusals.specs.declared.Verdict.the-variants.{Accepted}
 use Rattle.refusals.proofs.VerdictLaws.{never}
 use Rattle.leg.proofs.Legality.{stage-iff}
-use Rattle.routes.specs.Sources.{leading, records}
+use Rattle.routes.specs.Sources.{recordWithin, starts, leading, records, pieces, behindRecords}
 use Rattle.routes.specs.Stages.{nothing}
 use Rattle.routes.specs.Walk.{walkFrom, finished, walked}
 use Rattle.routes.specs.Files.{sizeStage, tailColumn, tailStage, fileVerdict}
 use Rattle.routes.specs.Places.{placeOf, Every, Rising}
 use Rattle.routes.specs.Legal.{lines, Wide}
 use Rattle.routes.proofs.InTurnLaws.{alone, accepts-iff, four-accept}
-use Rattle.routes.proofs.SourceLaws.{line-within, at-most}
+use Rattle.routes.proofs.SourceLaws.{line-within, at-most, length-starts}
 use Rattle.routes.proofs.FileLaws.{tail-none}
 use Rattle.routes.proofs.Routes.{places-rise}
 
@@ -87,12 +87,27 @@ tail-iff bytes count = (
   λ h. sym (tail-none bytes count h),
 )
 
+-- where the records are the whole file, nothing is behind them
+none-behind-records : (f : List ℕ) → length f ≤ length (records f) * 133 → behindRecords f ≡ []
+unfolding behindRecords pieces
+none-behind-records f h =
+    let n : length (map (recordWithin f) (starts 0 (length f / 133))) ≡ length f / 133 = simp (length-map, length-starts) in
+    drop-of-length-le (map (recordWithin f) (starts 0 (length f / 133))) {i = length (records f)} (omega (arith, n))
+
+-- the stages of a file, one by one
+stages-iff : (f : List ℕ) → (fileVerdict f ≡ Accepted)
+    ↔ ((sizeStage f ≡ Accepted) × (walkFrom (behindRecords f) nothing 1 (records f) ≡ Accepted) × (tailStage (length f) (length (records f)) ≡ Accepted)
+    × (finished (records f) ≡ Accepted))
+unfolding fileVerdict
+stages-iff f = four-accept (sizeStage f) (walkFrom (behindRecords f) nothing 1 (records f)) (tailStage (length f) (length (records f))) (finished (records f))
+
 -- the records of an accepted file are accepted in sequence
 pub accepted-records : (f : List ℕ) → fileVerdict f ≡ Accepted → walked (records f) ≡ Accepted
-unfolding fileVerdict walked
+unfolding walked
 accepted-records f e =
-    let w = four-accept (sizeStage f) (walkFrom nothing 1 (records f)) (tailStage (length f) (length (records f))) (finished (records f)) .0 e in
-    accepts-iff (walkFrom nothing 1 (records f)) (finished (records f) ∷ []) .1 (w .1, alone (finished (records f)) ∙ w .3)
+    let w = stages-iff f .0 e in
+    let none : behindRecords f ≡ [] = none-behind-records f (tail-iff (length f) (length (records f)) .0 (w .2)) in
+    accepts-iff (walkFrom [] nothing 1 (records f)) (finished (records f) ∷ []) .1 (rw none at (w .1), alone (finished (records f)) ∙ w .3)
 
 -- so their places rise
 pub file-places-rise : (f : List ℕ) → fileVerdict f ≡ Accepted → Rising (map placeOf (records f))
@@ -101,12 +116,12 @@ file-places-rise f e = places-rise (records f) (accepted-records f e)
 -- a file is accepted exactly when it is the lines of at most 480 records of 132 bytes that are accepted in sequence
 pub file-iff : (f : List ℕ) → (fileVerdict f ≡ Accepted)
     ↔ ((rs : List (List ℕ)) × (f ≡ lines rs) × Every Wide rs × (length rs ≤ 480) × (walked rs ≡ Accepted))
-unfolding fileVerdict records walked
+unfolding records walked
 file-iff f = (to, from)
   where
     to : fileVerdict f ≡ Accepted → (rs : List (List ℕ)) × (f ≡ lines rs) × Every Wide rs × (length rs ≤ 480) × (walked rs ≡ Accepted)
     to e =
-        let w = four-accept (sizeStage f) (walkFrom nothing 1 (records f)) (tailStage (length f) (length (records f))) (finished (records f)) .0 e in
+        let w = stages-iff f .0 e in
         let ended : length f ≤ length (leading 480 f) * 133 = tail-iff (length f) (length (leading 480 f)) .0 (w .2) in (
           leading 480 f,
           sym (rw (drop-of-length-le f ended, append-nil) at (leading-lines 480 f)),
@@ -119,10 +134,11 @@ file-iff f = (to, from)
     from (rs, b, w, h, a) =
         let own : leading 480 f ≡ rs = ap (leading 480) b ∙ lines-leading 480 rs w h in
         let long : length f ≡ length rs * 133 = ap length b ∙ length-lines rs w in
-        let v = accepts-iff (walkFrom nothing 1 rs) (finished rs ∷ []) .0 a in
-        four-accept (sizeStage f) (walkFrom nothing 1 (records f)) (tailStage (length f) (length (records f))) (finished (records f)) .1 (
+        let none : behindRecords f ≡ [] = none-behind-records f (rw own (omega arith)) in
+        let v = accepts-iff (walkFrom [] nothing 1 rs) (finished rs ∷ []) .0 a in
+        stages-iff f .1 (
           size-iff f .1 (omega arith),
-          rw own (v .0),
+          rw (none, own) (v .0),
           rw own (tail-iff (length f) (length rs) .1 (omega arith)),
           rw own (sym (alone (finished rs)) ∙ v .1),
         )

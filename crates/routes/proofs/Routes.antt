@@ -3,7 +3,7 @@
 -- Assumes nothing.
 use mathlib.Core.Path.{_≡_, refl, sym, ap, subst, _∙_}
 use mathlib.Core.Logic.{_↔_, _⊎_, inl, inr, ⊎-elim, Iff·rfl}
-use mathlib.Core.Bool.{true, false, cond, false≢true}
+use mathlib.Core.Bool.{Bool, true, false, cond, not, _&&_, _||_, false≢true}
 use mathlib.Core.List.{List, [], _∷_, _++_, map, append-nil}
 use Prim.Native.Nat.{ℕ}
 use Rattle.slices.specs.Order.{equal}
@@ -14,9 +14,9 @@ use Rattle.columns.specs.Kinds.{kindOf}
 use Rattle.columns.specs.declared.Kind.the-variants.{Primary, Continuation}
 use Rattle.refusals.specs.declared.Verdict.the-variants.{Accepted}
 use Rattle.leg.specs.Legal.{Legal}
-use Rattle.routes.specs.Pairs.{firstLeg}
+use Rattle.routes.specs.Pairs.{firstLeg, lastLeg}
 use Rattle.routes.specs.Stages.{Seen, seen, nothing, numberAfter, awaits}
-use Rattle.routes.specs.Walk.{primaryAfter, seenWith, walked}
+use Rattle.routes.specs.Walk.{isPrimary, followed, endsRoute, primaryAfter, seenWith, walked}
 use Rattle.routes.specs.Places.{keyOf, placeOf, Before, Every, Rising, ofRoute}
 use Rattle.routes.proofs.Steps.{Next, begins, follows, continues, Rest, done, more, walked-iff}
 use Rattle.routes.proofs.PlaceLaws.{head-key, nothing-before, not-nothing, continuation-number, place-key, key-place, next-rises, rising-cons, of-route-in, of-route-out, none-behind}
@@ -88,16 +88,41 @@ first-record r (begins l k a b f) = (l, k, f)
 first-record r (follows l k a b q f) = absurd (not-nothing r l b)
 first-record r (continues l k n e) = absurd (continuation-number r k (n ∙ after-none))
 
+-- where the record is the last leg of its route, it may be
+abbrev Ends : List ℕ → List (List ℕ) → Type 0
+Ends r rs = endsRoute r rs ≡ true → lastLeg r ≡ true
+
 -- a rest that has a record, taken apart
-next-then : {C : Type 0} {s : Seen} {r : List ℕ} {rs : List (List ℕ)} → Rest s (r ∷ rs) → (Next s r → Rest (seenWith s r) rs → C) → C
-next-then (more n t) f = f n t
+next-then : {C : Type 0} {s : Seen} {r : List ℕ} {rs : List (List ℕ)} → Rest s (r ∷ rs) → (Next s r → Ends r rs → Rest (seenWith s r) rs → C) → C
+next-then (more n h t) f = f n h t
 
 not-awaited : {s : Seen} → Rest s [] → awaits 39 (s .before) ≡ false
 not-awaited (done a) = a
 
+-- ---- the end of a route
+
+-- among records whose places rise, a leg is followed by one of its route exactly where it is among the route's own records
+followed-own : (k r : List ℕ) (rs : List (List ℕ)) → k ≡ keyOf r → Rising (placeOf r ∷ map placeOf rs) → followed k (ofRoute k rs) ≡ followed k rs
+unfolding ofRoute followed
+followed-own k r [] e u = refl
+followed-own k r (q ∷ rs) e u =
+    same-or k (keyOf q)
+    (λ d. ap (followed k) (of-route-in k q rs d) ∙ ap (λ (b : Bool). equal k (keyOf q) && (isPrimary (kindOf q) || b)) (followed-own k q rs d (u .1)))
+    (λ n.
+    let later : Before k (keyOf q) = ⊎-elim (λ b. subst (λ (x : List ℕ). Before x (keyOf q)) (sym e) b) (λ b. absurd (n (e ∙ b))) (place-key r q (u .0 .0)) in
+    ap (followed k) (of-route-out k q rs n ∙ none-behind k q rs later (u .1 .0)) ∙ sym (other-ends k q rs n))
+  where
+    other-ends : (k q : List ℕ) (rs : List (List ℕ)) → (k ≡ keyOf q → ⊥) → followed k (q ∷ rs) ≡ false
+    other-ends k q rs n = split (equal k (keyOf q)) (λ e. absurd (n (equal-iff k (keyOf q) .0 e))) (λ e. rw e)
+
+-- so it is the last leg here exactly where it is the last there
+ends-own : (k r : List ℕ) (rs : List (List ℕ)) → k ≡ keyOf r → Rising (placeOf r ∷ map placeOf rs) → endsRoute r (ofRoute k rs) ≡ endsRoute r rs
+unfolding endsRoute
+ends-own k r rs e u = ap (λ (b : Bool). isPrimary (kindOf r) && not b) (subst (λ (x : List ℕ). followed x (ofRoute k rs) ≡ followed x rs) e (followed-own k r rs e u))
+
 -- ---- from the whole to each route
 
-module _ (s : Seen) (r : List ℕ) (rs : List (List ℕ)) (n : Next s r) (behind : Every (Before (placeOf r)) (map placeOf rs)) (k : List ℕ)
+module _ (s : Seen) (r : List ℕ) (rs : List (List ℕ)) (n : Next s r) (h : Ends r rs) (rising : Rising (placeOf r ∷ map placeOf rs)) (k : List ℕ)
     (rest : Rest (narrow k (seenWith s r)) (ofRoute k rs)) where
   -- the route of this record
   own-route : k ≡ keyOf r → Rest (narrow k s) (r ∷ ofRoute k rs)
@@ -106,13 +131,16 @@ module _ (s : Seen) (r : List ℕ) (rs : List (List ℕ)) (n : Next s r) (behind
       after : Rest (seenWith s r) (ofRoute k rs)
       after = rest-at (narrow-in k (seenWith s r) (e ∙ sym (seen-key s r n))) rest
 
+      ends : Ends r (ofRoute k rs)
+      ends = λ q. h (sym (ends-own k r rs e rising) ∙ q)
+
       by : Next s r → Rest (narrow k s) (r ∷ ofRoute k rs)
       by (begins l p a b f) =
           let other : k ≡ keyOf (s .primary) → ⊥ = λ q. irreflexive (keyOf r) (subst (λ (x : List ℕ). Before x (keyOf r)) (sym q ∙ e) b) in
           rest-at (sym (narrow-out k s other))
-          (more (begins l p none-awaited (nothing-before r l) f) (rest-at (seen-primary s r p ∙ sym (seen-primary nothing r p)) after))
-      by (follows l p a b q f) = rest-at (sym (narrow-in k s (e ∙ sym b))) (more (follows l p a b q f) after)
-      by (continues l p m h) = rest-at (sym (narrow-in k s (e ∙ sym (head-key (s .primary) r h)))) (more (continues l p m h) after)
+          (more (begins l p none-awaited (nothing-before r l) f) ends (rest-at (seen-primary s r p ∙ sym (seen-primary nothing r p)) after))
+      by (follows l p a b q f) = rest-at (sym (narrow-in k s (e ∙ sym b))) (more (follows l p a b q f) ends after)
+      by (continues l p m d) = rest-at (sym (narrow-in k s (e ∙ sym (head-key (s .primary) r d)))) (more (continues l p m d) ends after)
 
   -- another route
   other-route : (k ≡ keyOf r → ⊥) → Rest (narrow k s) (ofRoute k rs)
@@ -121,21 +149,21 @@ module _ (s : Seen) (r : List ℕ) (rs : List (List ℕ)) (n : Next s r) (behind
       same-or k (keyOf (s .primary)) (λ e. rest-at (sym (narrow-in k s e)) (left-behind n e)) (λ e. rest-at (sym (narrow-out k s e)) after)
     where
       left-behind : Next s r → k ≡ keyOf (s .primary) → Rest s (ofRoute k rs)
-      left-behind (begins l p a b f) e = rw (none-behind k r rs (subst (λ (x : List ℕ). Before x (keyOf r)) (sym e) b) behind) (done a)
+      left-behind (begins l p a b f) e = rw (none-behind k r rs (subst (λ (x : List ℕ). Before x (keyOf r)) (sym e) b) (rising .0)) (done a)
       left-behind (follows l p a b q f) e = absurd (o (e ∙ b))
-      left-behind (continues l p m h) e = absurd (o (e ∙ head-key (s .primary) r h))
+      left-behind (continues l p m d) e = absurd (o (e ∙ head-key (s .primary) r d))
 
 apart : {s : Seen} {rs : List (List ℕ)} → Together s → Rest s rs
     → Rising (placeOf (s .before) ∷ map placeOf rs) × ((k : List ℕ) → Rest (narrow k s) (ofRoute k rs))
 unfolding ofRoute
 apart {s} t (done a) =
     ((tt, tt), λ k. same-or k (keyOf (s .primary)) (λ e. rest-at (sym (narrow-in k s e)) (done a)) (λ e. rest-at (sym (narrow-out k s e)) none-seen))
-apart {s} t (more {r = r} {rs = rs} n rest) =
+apart {s} t (more {r = r} {rs = rs} n h rest) =
     let i = apart (seen-together s r n) rest in (
       rising-cons (placeOf (s .before)) (placeOf r) (map placeOf rs) (next-rises s r t n) (i .0),
       λ k.
-          same-or k (keyOf r) (λ e. rw (of-route-in k r rs e) (own-route s r rs n (i .0 .0) k (i .1 k) e))
-          (λ e. rw (of-route-out k r rs e) (other-route s r rs n (i .0 .0) k (i .1 k) e)),
+          same-or k (keyOf r) (λ e. rw (of-route-in k r rs e) (own-route s r rs n h (i .0) k (i .1 k) e))
+          (λ e. rw (of-route-out k r rs e) (other-route s r rs n h (i .0) k (i .1 k) e)),
     )
 
 -- ---- from each route to the whole
@@ -154,25 +182,26 @@ gives-cons r rs ih s t u h = same-or (keyOf r) (keyOf (s .primary)) same other
     of-other k o = subst (λ (l : List (List ℕ)). Rest (narrow k s) l) (of-route-out k r rs o) (h k)
 
     -- the rest, once this record is known to come next, and the rest of its route and of the other routes
-    with-next : Next s r → Rest (seenWith s r) (ofRoute (keyOf r) rs) → ((k : List ℕ) → (k ≡ keyOf r → ⊥) → Rest nothing (ofRoute k rs)) → Rest s (r ∷ rs)
-    with-next n own others =
-        more n
+    with-next : Next s r → Ends r (ofRoute (keyOf r) rs) → Rest (seenWith s r) (ofRoute (keyOf r) rs)
+        → ((k : List ℕ) → (k ≡ keyOf r → ⊥) → Rest nothing (ofRoute k rs)) → Rest s (r ∷ rs)
+    with-next n ends own others =
+        more n (λ q. ends (ends-own (keyOf r) r rs refl (u .1) ∙ q))
         (ih (seenWith s r) (seen-together s r n) (u .1) λ k.
         same-or k (keyOf r)
         (λ e. rest-at (sym (narrow-in k (seenWith s r) (e ∙ sym (seen-key s r n)))) (subst (λ (x : List ℕ). Rest (seenWith s r) (ofRoute x rs)) (sym e) own))
         (λ o. rest-at (sym (narrow-out k (seenWith s r) (λ e. o (e ∙ seen-key s r n)))) (others k o)))
 
     same : keyOf r ≡ keyOf (s .primary) → Rest s (r ∷ rs)
-    same e = next-then (rest-at (narrow-in (keyOf r) s e) of-this) λ n own.
-        with-next n own λ k o. rest-at (narrow-out k s (λ q. o (q ∙ sym e))) (of-other k o)
+    same e = next-then (rest-at (narrow-in (keyOf r) s e) of-this) λ n ends own.
+        with-next n ends own λ k o. rest-at (narrow-out k s (λ q. o (q ∙ sym e))) (of-other k o)
 
     other : (keyOf r ≡ keyOf (s .primary) → ⊥) → Rest s (r ∷ rs)
-    other o = next-then (rest-at (narrow-out (keyOf r) s o) of-this) λ n own.
+    other o = next-then (rest-at (narrow-out (keyOf r) s o) of-this) λ n ends own.
         let first = first-record r n in
         let later : Before (keyOf (s .primary)) (keyOf r) = later-key (place-key (s .before) r (u .0 .0)) in
         let empty : ofRoute (keyOf (s .primary)) rs ≡ [] = none-behind (keyOf (s .primary)) r rs later (u .1 .0) in
         let ended : Rest s [] = subst (λ (l : List (List ℕ)). Rest s l) empty (rest-at (narrow-in (keyOf (s .primary)) s refl) (of-other (keyOf (s .primary)) (λ e. o (sym e)))) in
-        with-next (begins (first .0) (first .1) (not-awaited ended) later (first .2)) (rest-at (seen-primary nothing r (first .1) ∙ sym (seen-primary s r (first .1))) own)
+        with-next (begins (first .0) (first .1) (not-awaited ended) later (first .2)) ends (rest-at (seen-primary nothing r (first .1) ∙ sym (seen-primary s r (first .1))) own)
         λ k d.
         same-or k (keyOf (s .primary)) (λ e. rw (e, empty) none-seen) (λ e. rest-at (narrow-out k s e) (of-other k d))
       where
@@ -196,7 +225,7 @@ rising-whole [] u h = (tt, tt)
 rising-whole (r ∷ rs) u h =
     rising-cons (placeOf []) (placeOf r) (map placeOf rs)
     (next-then (subst (λ (l : List (List ℕ)). Rest nothing l) (of-route-in (keyOf r) r rs refl) (h (keyOf r)))
-    λ n _. key-place [] r (nothing-before r (first-record r n .0)))
+    λ n _ _. key-place [] r (nothing-before r (first-record r n .0)))
     u
 
 -- records are accepted in sequence exactly when their places rise and, for every route, its own records are accepted by themselves

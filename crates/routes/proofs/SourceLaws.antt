@@ -2,16 +2,16 @@
 -- Assumes nothing.
 use mathlib.Core.Path.{_≡_, refl, sym, ap, ap₂, _∙_}
 use mathlib.Core.List.{List, [], _∷_, _++_, map}
-use Prim.Native.Nat.{ℕ, zero, suc, _+_, _-_, _*_, _≤_, _<_, min}
+use Prim.Native.Nat.{ℕ, zero, suc, _+_, _-_, _*_, _/_, _≤_, _<_, min}
 use native.Mathlib.Omega.{arith}
 use native.Mathlib.Numerals.{add-one}
 use native.Mathlib.Decide.{decLt}
 use lib.Dec.{eqb}
 use lib.ListN.{length, getD, take, drop, set, replicate, length-take, length-drop, length-map, drop-of-length-le, List·getD-eq-default}
-use lib.Seq.{set-at, append-snoc, take-at, getD-drop, getD-take, drop-drop, drop-cons, take-all}
+use lib.Seq.{set-at, append-snoc, take-at, take-take, getD-drop, getD-take, drop-drop, drop-cons, take-all}
 use borrow.Author.Tests.{le-leb, lt-leb, lt-ltb, le-ltb, eq-eqb, ne-eqb, eqb-true}
 use Rattle.slices.proofs.Cases.{split}
-use Rattle.routes.specs.Sources.{recordWithin, firstOfLog, recordAt, inUse, sourcesIn, recordsIn, leading, records, starts, sourcesFor, sourcesTo, sourcesOf}
+use Rattle.routes.specs.Sources.{recordWithin, firstOfLog, recordAt, inUse, sourcesIn, recordsIn, leading, records, starts, pieces, behindRecords, sourcesFor, sourcesTo, sourcesOf}
 use Rattle.routes.specs.Walk.{last}
 use Rattle.routes.specs.declared.Sources.{Sources}
 
@@ -118,10 +118,9 @@ pub left-start : (f : List ℕ) → recordsLeft f 0 ≡ length (records f)
 unfolding recordsLeft records
 left-start f = refl
 
--- what has been found is all there is
-pub found-all : (f : List ℕ) (i : ℕ) {s : Sources} → length (records f) ≡ i + recordsLeft f i → recordsLeft f i ≡ 0 → s ≡ sourcesTo i → s ≡ sourcesOf f
-unfolding sourcesOf
-found-all f i e z h = let q : i ≡ length (records f) = omega arith in h ∙ ap sourcesTo q
+-- where none is left, all are counted
+pub none-left : (f : List ℕ) (i : ℕ) → length (records f) ≡ i + recordsLeft f i → recordsLeft f i ≡ 0 → i ≡ length (records f)
+none-left f i e z = omega arith
 
 -- ---- a range of sources
 
@@ -139,6 +138,46 @@ module _ (s : Sources) (long : length (s .at) ≡ 480) (to i : ℕ) where
   range-next h =
       let q : i < length (take to (take (s .count) (s .at))) = simp length-take (omega arith) in
       rw (add-one, drop-cons (take to (take (s .count) (s .at))) i 0 q, getD-take to (take (s .count) (s .at)) i 0 (omega arith), getD-take (s .count) (s .at) i 0 (omega arith))
+
+take-none : (n : ℕ) → take {A = ℕ} n [] ≡ []
+take-none zero = refl
+take-none (suc n) = refl
+
+drop-none : (n : ℕ) → drop {A = ℕ} n [] ≡ []
+drop-none zero = refl
+drop-none (suc n) = refl
+
+-- two ranges one behind the other are one
+pub range-join : (i to ahead : ℕ) (xs : List ℕ) → i ≤ to → to ≤ ahead → drop i (take to xs) ++ drop to (take ahead xs) ≡ drop i (take ahead xs)
+range-join i to ahead [] h k = rw (take-none to, take-none ahead, drop-none i, drop-none to)
+range-join zero zero ahead (x ∷ xs) h k = refl
+range-join zero (suc to) zero (x ∷ xs) h k = absurd (omega arith)
+range-join zero (suc to) (suc ahead) (x ∷ xs) h k = ap (λ (l : List ℕ). x ∷ l) (range-join zero to ahead xs (omega arith) (omega arith))
+range-join (suc i) zero ahead (x ∷ xs) h k = absurd (omega arith)
+range-join (suc i) (suc to) zero (x ∷ xs) h k = absurd (omega arith)
+range-join (suc i) (suc to) (suc ahead) (x ∷ xs) h k = range-join i to ahead xs (omega arith) (omega arith)
+
+-- the sources that count, up to some place
+take-least : (n : ℕ) (xs : List ℕ) (m : ℕ) → m ≡ min n (length xs) → take m xs ≡ take n xs
+take-least n xs m e = by (decLt n (length xs))
+  where
+    by : Dec (n < length xs) → take m xs ≡ take n xs
+    by (yes h) = let q : m ≡ n = omega arith in rw q
+    by (no h) = take-all m xs (omega arith) ∙ sym (take-all n xs (omega arith))
+
+pub used-to : (s : Sources) → length (s .at) ≡ 480 → (to : ℕ) {end : ℕ} → end ≡ min to (min (s .count) 480) → take end (s .at) ≡ take to (inUse s)
+unfolding inUse
+used-to s long to {end} e = by (decLt (s .count) to)
+  where
+    by : Dec (s .count < to) → take end (s .at) ≡ take to (take (s .count) (s .at))
+    by (yes h) =
+        take-least (s .count) (s .at) end (omega (arith, e, long))
+        ∙ sym (take-all to (take (s .count) (s .at)) (omega (arith, length-take (s .count) (s .at))))
+    by (no h) = take-least to (s .at) end (omega (arith, e, long)) ∙ sym (take-take to (s .count) (s .at) (omega arith))
+
+-- nothing is between a place and itself
+pub range-none : (to : ℕ) (xs : List ℕ) → drop to (take to xs) ≡ []
+range-none to xs = drop-of-length-le (take to xs) {i = to} (simp length-take (omega arith))
 
 pub sources-start : record { count = 0; at = replicate 480 0 } ≡ sourcesTo 0
 unfolding sourcesTo sourcesFor starts
@@ -181,12 +220,20 @@ own-from f l (suc m) at h =
     (own-from f l m (at + 133) (omega arith))))
     (λ e. rw e)
 
+starts-records : (f l : List ℕ) → map (recordAt f l) (starts 0 (length (records f))) ≡ records f
+unfolding records
+starts-records f l = own-from f l 480 0 (omega arith)
+
+-- the sources that count are those starts
+in-use : (n : ℕ) → inUse (sourcesTo n) ≡ starts 0 n
+unfolding inUse
+in-use n = rw (by-count n, take-at (starts 0 n) (replicate (480 - n) 0) n (length-starts 0 n))
+
 pub own-records : (f l : List ℕ) → recordsIn f l (sourcesOf f) 0 (sourcesOf f .count) ≡ records f
-unfolding recordsIn inUse sourcesOf records
+unfolding recordsIn sourcesOf
 own-records f l =
-    let n = length (leading 480 f) in
-    rw (by-count n, take-at (starts 0 n) (replicate (480 - n) 0) n (length-starts 0 n), take-all n (starts 0 n) (omega (arith, length-starts 0 n)))
-    (own-from f l 480 0 (omega arith))
+    let n = length (records f) in
+    rw (in-use n, by-count n, take-all n (starts 0 n) (omega (arith, length-starts 0 n))) (starts-records f l)
 
 pub at-most : (n : ℕ) (f : List ℕ) → length (leading n f) ≤ n
 unfolding leading
@@ -200,3 +247,45 @@ own-count f {s} e = (own, rw own (at-most 480 f))
   where
     own : s .count ≡ length (leading 480 f)
     own = ap (λ (t : Sources). t .count) (e ∙ by-count (length (leading 480 f)))
+
+-- so many records have so many bytes
+leading-bytes : (n : ℕ) (f : List ℕ) → length (leading n f) * 133 ≤ length f
+unfolding leading
+leading-bytes zero f = omega arith
+leading-bytes (suc n) f =
+    split (eqb (getD f 132 0) 10)
+    (λ e. rw e (omega (arith, leading-bytes n (drop 133 f), length-drop 133 f, line-within f 132 (eqb-true (getD f 132 0) 10 e)))) (λ e. rw e (omega arith))
+
+-- the leading ones of more starts
+take-starts : (at n m : ℕ) → n ≤ m → take n (starts at m) ≡ starts at n
+unfolding starts
+take-starts at zero m h = refl
+take-starts at (suc n) zero h = absurd (omega arith)
+take-starts at (suc n) (suc m) h = ap (λ (t : List ℕ). at ∷ t) (take-starts (at + 133) n m (omega arith))
+
+-- a frozen record is the same beside any log
+beside : (f l : List ℕ) (at n : ℕ) → at + n * 133 ≤ firstOfLog → map (recordAt f l) (starts at n) ≡ map (recordWithin f) (starts at n)
+unfolding starts
+beside f l at zero h = refl
+beside f l at (suc n) h =
+    ap₂ (λ (r : List ℕ) (rs : List (List ℕ)). r ∷ rs) (sym (in-frozen f l at (omega arith))) (beside f l (at + 133) n (omega arith))
+
+map-drop : (g : ℕ → List ℕ) (n : ℕ) (xs : List ℕ) → map g (drop n xs) ≡ drop n (map g xs)
+map-drop g zero xs = refl
+map-drop g (suc n) [] = refl
+map-drop g (suc n) (x ∷ xs) = map-drop g n xs
+
+-- the sources of a file's pieces: those of its records, and those behind them
+module _ (f : List ℕ) {n : ℕ} (e : n ≡ length f / 133) {count : ℕ} (c : count ≡ length (records f)) where
+  pub fewer : count ≤ n
+  unfolding records
+  fewer = omega (arith, leading-bytes 480 f)
+
+  module _ (short : length f ≤ 63840) {s : Sources} (p : s ≡ sourcesTo n) where
+    pub pieces-judged : map (recordAt f f) (sourcesIn s 0 count) ≡ records f
+    pieces-judged = rw (p, in-use n, take-starts 0 count n fewer, c) (starts-records f f)
+
+    pub pieces-behind : recordsIn f f s count n ≡ behindRecords f
+    unfolding recordsIn behindRecords pieces
+    pieces-behind =
+        rw (p, in-use n, take-all n (starts 0 n) (omega (arith, length-starts 0 n)), map-drop (recordAt f f) count (starts 0 n), beside f f 0 n (omega arith), e, c)

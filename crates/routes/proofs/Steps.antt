@@ -2,8 +2,8 @@
 -- Assumes nothing.
 use mathlib.Core.Path.{_≡_, refl, sym, ap, _∙_}
 use mathlib.Core.Logic.{_↔_, Iff·trans}
-use mathlib.Core.Bool.{Bool, true, false, cond}
-use mathlib.Core.List.{List, [], _∷_}
+use mathlib.Core.Bool.{Bool, true, false, cond, not, _&&_, false≢true}
+use mathlib.Core.List.{List, [], _∷_, _++_, append-nil}
 use Prim.Native.Nat.{ℕ, _+_, _≤_}
 use native.Mathlib.Omega.{arith}
 use lib.Dec.{eqb}
@@ -21,18 +21,18 @@ use Rattle.columns.specs.Words.{columns}
 use Rattle.columns.specs.Kinds.{kindOf}
 use Rattle.columns.specs.declared.Kind.{Kind}
 use Rattle.columns.specs.declared.Kind.the-variants.{Primary, Continuation}
-use Rattle.refusals.specs.Table.{continuationHead, routeNotLater, sequenceNotRisen, legPair, continuationNumber}
+use Rattle.refusals.specs.Table.{continuationHead, routeNotLater, sequenceNotRisen, legPair, legEnding, continuationNumber}
 use Rattle.refusals.specs.declared.Verdict.{Verdict}
 use Rattle.refusals.specs.declared.Verdict.the-variants.{Accepted, Refused}
 use Rattle.leg.specs.Judge.{stage, judged}
 use Rattle.leg.specs.Legal.{Legal}
 use Rattle.leg.proofs.Legality.{accepted-iff, stage-iff}
 use Rattle.routes.specs.InTurn.{inTurn}
-use Rattle.routes.specs.Pairs.{terminatorIn, firstLeg, pair}
-use Rattle.routes.specs.Stages.{Seen, nothing, numberAfter, firstDifference, awaits, continuationColumn, continuationStage, byOrder, sequenceStage, orderStage, legStands, legStage}
-use Rattle.routes.specs.Walk.{stagesAfter, judgedNext, seenWith, last, walkFrom, finished, walked}
+use Rattle.routes.specs.Pairs.{terminatorIn, firstLeg, lastLeg, pair}
+use Rattle.routes.specs.Stages.{Seen, nothing, numberAfter, firstDifference, awaits, continuationColumn, continuationStage, byOrder, sequenceStage, orderStage, legStands, legStage, endingStage}
+use Rattle.routes.specs.Walk.{endsRoute, stagesAfter, judgedNext, seenWith, last, walkFrom, finished, walked}
 use Rattle.routes.specs.Places.{keyOf, sequenceOf, Before}
-use Rattle.routes.proofs.InTurnLaws.{alone, accepts-iff, four-accept}
+use Rattle.routes.proofs.InTurnLaws.{alone, accepts-iff, five-accept}
 
 -- ---- the stages, one by one
 
@@ -141,47 +141,72 @@ ordered place s r = orderStage 25 (kindOf r) (s .primary) place r (sequenceStage
 abbrev flown : ℕ → Seen → List ℕ → Verdict
 flown place s r = legStage 25 (kindOf r) (s .primary) place r
 
-pub next-iff : (place : ℕ) (s : Seen) (r : List ℕ) → (judgedNext s place r ≡ Accepted) ↔ Next s r
-unfolding judgedNext orderStage legStage
-next-iff place s r = (to, from)
+-- where it is the last leg of its route, it may be
+abbrev Ending : (last : Bool) → List ℕ → Type 0
+Ending last r = last ≡ true → lastLeg r ≡ true
+
+ending-iff : (place : ℕ) (last : Bool) (r : List ℕ) → (endingStage last place r ≡ Accepted) ↔ Ending last r
+unfolding endingStage
+ending-iff place last r = (to last (lastLeg r), from last (lastLeg r))
   where
-    stages : (inTurn (stagesAfter s place r) ≡ Accepted)
-        ↔ ((judged place r ≡ Accepted) × (continued place s r ≡ Accepted) × (ordered place s r ≡ Accepted) × (flown place s r ≡ Accepted))
-    stages = four-accept (judged place r) (continued place s r) (ordered place s r) (flown place s r)
+    to : (a b : Bool) → cond (a && not b) (Refused (legEnding place)) Accepted ≡ Accepted → a ≡ true → b ≡ true
+    to a true e h = refl
+    to true false e h = absurd (never e)
+    to false false e h = h
 
-    to : judgedNext s place r ≡ Accepted → Next s r
-    to e = let w = stages .0 e in next-of place s r (accepted-iff r place .0 (w .0)) (kindOf r) refl (w .1) (w .2) (w .3)
+    from : (a b : Bool) → (a ≡ true → b ≡ true) → cond (a && not b) (Refused (legEnding place)) Accepted ≡ Accepted
+    from true true h = refl
+    from true false h = absurd (false≢true (h refl))
+    from false b h = refl
 
-    all-stages : Legal r → continued place s r ≡ Accepted → ordered place s r ≡ Accepted → flown place s r ≡ Accepted → judgedNext s place r ≡ Accepted
-    all-stages l c o g = stages .1 (accepted-iff r place .1 l, c, o, g)
+pub next-iff : (place : ℕ) (s : Seen) (last : Bool) (r : List ℕ) → (judgedNext s place last r ≡ Accepted) ↔ (Next s r × Ending last r)
+unfolding judgedNext orderStage legStage
+next-iff place s last r = (to, λ (n, h). from n (ending-iff place last r .1 h))
+  where
+    stages : (inTurn (stagesAfter s place last r) ≡ Accepted)
+        ↔ ((judged place r ≡ Accepted) × (continued place s r ≡ Accepted) × (ordered place s r ≡ Accepted) × (flown place s r ≡ Accepted)
+        × (endingStage last place r ≡ Accepted))
+    stages = five-accept (judged place r) (continued place s r) (ordered place s r) (flown place s r) (endingStage last place r)
 
-    from : Next s r → judgedNext s place r ≡ Accepted
-    from (begins l k a b f) =
-        all-stages l (rw k (awaited-iff place s r .1 a)) (rw (k, b)) (rw k (leg-iff place (s .primary) r .1 (stands-later (s .primary) r b ∙ f)))
-    from (follows l k a b q f) =
+    to : judgedNext s place last r ≡ Accepted → Next s r × Ending last r
+    to e = let w = stages .0 e in (next-of place s r (accepted-iff r place .0 (w .0)) (kindOf r) refl (w .1) (w .2) (w .3), ending-iff place last r .0 (w .4))
+
+    all-stages : Legal r → continued place s r ≡ Accepted → ordered place s r ≡ Accepted → flown place s r ≡ Accepted → endingStage last place r ≡ Accepted
+        → judgedNext s place last r ≡ Accepted
+    all-stages l c o g h = stages .1 (accepted-iff r place .1 l, c, o, g, h)
+
+    from : Next s r → endingStage last place r ≡ Accepted → judgedNext s place last r ≡ Accepted
+    from (begins l k a b f) h =
+        all-stages l (rw k (awaited-iff place s r .1 a)) (rw (k, b)) (rw k (leg-iff place (s .primary) r .1 (stands-later (s .primary) r b ∙ f))) h
+    from (follows l k a b q f) h =
         all-stages l (rw k (awaited-iff place s r .1 a)) (rw (k, b, order-refl (keyOf r)) (sequence-iff place (s .primary) r .1 q))
-        (rw k (leg-iff place (s .primary) r .1 (stands-same (s .primary) r b ∙ f)))
-    from (continues l k n h) = all-stages l (rw k (continuation-iff place s r .1 (n, h))) (rw k) (rw k)
+        (rw k (leg-iff place (s .primary) r .1 (stands-same (s .primary) r b ∙ f))) h
+    from (continues l k n e) h = all-stages l (rw k (continuation-iff place s r .1 (n, e))) (rw k) (rw k) h
 
 -- ---- a walk that accepts, from a state on
 
+-- each record comes next, and where no leg of its route is behind it, it may end that route
 pub data Rest : Seen → List (List ℕ) → Type 0 where
   done : {s : Seen} → awaits 39 (s .before) ≡ false → Rest s []
-  more : {s : Seen} {r : List ℕ} {rs : List (List ℕ)} → Next s r → Rest (seenWith s r) rs → Rest s (r ∷ rs)
+  more : {s : Seen} {r : List ℕ} {rs : List (List ℕ)} → Next s r → (endsRoute r rs ≡ true → lastLeg r ≡ true) → Rest (seenWith s r) rs → Rest s (r ∷ rs)
 
-rest-to : (place : ℕ) (s : Seen) (rs : List (List ℕ)) → walkFrom s place rs ≡ Accepted → awaits 39 (last (s .before ∷ rs)) ≡ false → Rest s rs
+rest-to : (place : ℕ) (s : Seen) (rs : List (List ℕ)) → walkFrom [] s place rs ≡ Accepted → awaits 39 (last (s .before ∷ rs)) ≡ false → Rest s rs
 unfolding walkFrom last
 rest-to place s [] e a = done a
 rest-to place s (r ∷ rs) e a =
-    let w = accepts-iff (judgedNext s place r) (walkFrom (seenWith s r) (place + 1) rs ∷ []) .0 e in
-    more (next-iff place s r .0 (w .0)) (rest-to (place + 1) (seenWith s r) rs (sym (alone (walkFrom (seenWith s r) (place + 1) rs)) ∙ w .1) a)
+    let w = accepts-iff (judgedNext s place (endsRoute r (rs ++ [])) r) (walkFrom [] (seenWith s r) (place + 1) rs ∷ []) .0 e in
+    let n = next-iff place s (endsRoute r (rs ++ [])) r .0 (w .0) in
+    more (n .0) (rw append-nil at (n .1)) (rest-to (place + 1) (seenWith s r) rs (sym (alone (walkFrom [] (seenWith s r) (place + 1) rs)) ∙ w .1) a)
 
-rest-from : (place : ℕ) {s : Seen} {rs : List (List ℕ)} → Rest s rs → (walkFrom s place rs ≡ Accepted) × (awaits 39 (last (s .before ∷ rs)) ≡ false)
+rest-from : (place : ℕ) {s : Seen} {rs : List (List ℕ)} → Rest s rs → (walkFrom [] s place rs ≡ Accepted) × (awaits 39 (last (s .before ∷ rs)) ≡ false)
 unfolding walkFrom last
 rest-from place (done a) = (refl, a)
-rest-from place (more {s} {r} {rs} n t) =
-    let w = rest-from (place + 1) t in
-    (accepts-iff (judgedNext s place r) (walkFrom (seenWith s r) (place + 1) rs ∷ []) .1 (next-iff place s r .1 n, alone (walkFrom (seenWith s r) (place + 1) rs) ∙ w .0), w .1)
+rest-from place (more {s} {r} {rs} n h t) =
+    let w = rest-from (place + 1) t in (
+      accepts-iff (judgedNext s place (endsRoute r (rs ++ [])) r) (walkFrom [] (seenWith s r) (place + 1) rs ∷ []) .1
+          (next-iff place s (endsRoute r (rs ++ [])) r .1 (n, rw append-nil h), alone (walkFrom [] (seenWith s r) (place + 1) rs) ∙ w .0),
+      w .1,
+    )
 
 finished-iff : (rs : List (List ℕ)) → (finished rs ≡ Accepted) ↔ (awaits 39 (last rs) ≡ false)
 unfolding finished
@@ -197,7 +222,7 @@ last-of-none [] = refl
 last-of-none (r ∷ rs) = refl
 
 -- the walk accepts, with nothing missing at its end, exactly when each record comes next in one of the three ways
-pub walk-iff : (rs : List (List ℕ)) → ((walkFrom nothing 1 rs ≡ Accepted) × (finished rs ≡ Accepted)) ↔ Rest nothing rs
+pub walk-iff : (rs : List (List ℕ)) → ((walkFrom [] nothing 1 rs ≡ Accepted) × (finished rs ≡ Accepted)) ↔ Rest nothing rs
 walk-iff rs = (
   λ (w, f). rest-to 1 nothing rs w (ap (awaits 39) (last-of-none rs) ∙ finished-iff rs .0 f),
   λ t. let w = rest-from 1 t in (w .0, finished-iff rs .1 (sym (ap (awaits 39) (last-of-none rs)) ∙ w .1)),
@@ -207,7 +232,7 @@ pub walked-iff : (rs : List (List ℕ)) → (walked rs ≡ Accepted) ↔ Rest no
 unfolding walked
 walked-iff rs =
     Iff·trans (
-      λ e. let w = accepts-iff (walkFrom nothing 1 rs) (finished rs ∷ []) .0 e in (w .0, sym (alone (finished rs)) ∙ w .1),
-      λ (w, f). accepts-iff (walkFrom nothing 1 rs) (finished rs ∷ []) .1 (w, alone (finished rs) ∙ f),
+      λ e. let w = accepts-iff (walkFrom [] nothing 1 rs) (finished rs ∷ []) .0 e in (w .0, sym (alone (finished rs)) ∙ w .1),
+      λ (w, f). accepts-iff (walkFrom [] nothing 1 rs) (finished rs ∷ []) .1 (w, alone (finished rs) ∙ f),
     )
     (walk-iff rs)

@@ -24,10 +24,11 @@ use Rattle.leg.specs.Terminator.{inOrder, terminatorAt, terminatorOf, terminato
 use Rattle.leg.specs.Stages.{oddOne, missing, companionColumn, neededOf, neededColumn}
 use Rattle.leg.specs.Judge.{stage, judgedLeg, judged}
 use Rattle.routes.specs.InTurn.{inTurn}
-use Rattle.routes.specs.Sources.{leading, records}
-use Rattle.routes.specs.Pairs.{onlyFirst, neverFirst, followsFix, firstLeg, pair}
-use Rattle.routes.specs.Stages.{numberAfter, firstDifference, awaits, continuationColumn, continuationStage, sequenceStage, orderStage, legStands, legStage}
-use Rattle.routes.specs.Walk.{judgedNext, primaryAfter, last, walkFrom, finished}
+use Rattle.routes.specs.Sources.{recordWithin, leading, records, starts, pieces, behindRecords}
+use Rattle.routes.specs.LegTable.{named, page, routeKinds}
+use Rattle.routes.specs.Pairs.{onlyFirst, followsFix, oldPair, mark, readable, pair, ofKind, kindNumber, kindAt, mayBegin, mayEnd, firstLeg, lastLeg}
+use Rattle.routes.specs.Stages.{numberAfter, firstDifference, awaits, continuationColumn, continuationStage, sequenceStage, orderStage, legStands, legStage, endingStage}
+use Rattle.routes.specs.Walk.{followed, endsRoute, judgedNext, primaryAfter, last, walkFrom, finished}
 use Rattle.routes.specs.Files.{sizeStage, tailColumn, tailStage, fileVerdict}
 
 record Vector : Type 0 where
@@ -53,46 +54,67 @@ right : List Vector → Bool
 right [] = true
 right (v ∷ vs) = same (stated (fileVerdict (v .file))) (v .answer) && right vs
 
--- a legal leg of a sequence number and a terminator; it has every field that these need
+-- a legal leg of a sequence number and a terminator; it has every field that these need. Of an approach; and of a missed approach, which a
+-- course may begin and end
 leg : String → String → List ℕ
 leg sequence terminator = approach at 27 is sequence at 48 is terminator
 
+missed : List ℕ
+missed = approach at 20 is "Z"
+
 -- the same with continuations to come, and a continuation of it
 continued : List ℕ
-continued = approach at 39 is "1"
+continued = missed at 39 is "1"
+
+note : List ℕ
+note = notes at 20 is "Z"
 
 vectors : List Vector
 vectors =
     end gives 0 at 0 column 0 ∷
-    leg "010" "IF" then leg "020" "IF" then end gives 8 at 2 column 48 ∷  -- 8
-    leg "010" "IF" then (leg "010" "TF") at 21 is "SEA  " then end gives 8 at 2 column 48 ∷
-    leg "010" "HM" at 44 is "L" then leg "020" "FM" then leg "030" "FM" then end gives 8 at 3 column 48 ∷
-    take 131 approach gives 1 at 1 column 132 ∷  -- 1
-    approach gives 1 at 1 column 133 ∷
-    (approach ++ approach) gives 1 at 1 column 133 ∷
-    approach then codes "S" gives 1 at 2 column 2 ∷
+    leg "010" "IF" then leg "020" "IF" then leg "030" "TF" then end gives 0 at 0 column 0 ∷  -- 8 at 48: a pair, a first leg
+    leg "010" "IF" then leg "020" "VI" then leg "030" "IF" then leg "040" "TF" then end gives 8 at 3 column 48 ∷
+    leg "010" "IF" then leg "020" "TF" then (leg "030" "TF") at 21 is "SEA  " then end gives 8 at 3 column 48 ∷
+    leg "010" "IF" then leg "020" "HM" at 44 is "L" then leg "030" "FM" then leg "040" "FM" then end gives 8 at 4 column 48 ∷
+    approach then end gives 8 at 1 column 48 ∷
+    leg "010" "RF" at 20 is "Z" at 44 is "L" at 57 is "001500" at 107 is "CF16R" at 113 is "K1P" then leg "020" "TF" at 20 is "Z" then end gives 0 at 0 column 0 ∷
+    leg "010" "IF" then end gives 8 at 1 column 49 ∷  -- 8 at 49
+    leg "010" "IF" then leg "020" "VI" then end gives 8 at 2 column 49 ∷
+    leg "010" "IF" then leg "020" "VI" then missed then end gives 8 at 2 column 49 ∷
+    leg "010" "IF" then leg "020" "VI" at 39 is "1" then notes at 27 is "020" then notes at 27 is "020" at 39 is "3" then end gives 8 at 2 column 49 ∷
+    leg "010" "IF" then leg "020" "VI" at 39 is "1" then notes at 27 is "020" then leg "030" "CF" then end gives 0 at 0 column 0 ∷
+    leg "010" "IF" then leg "020" "VI" at 39 is "1" then end gives 8 at 2 column 49 ∷
+    leg "010" "VI" then end gives 8 at 1 column 48 ∷
+    leg "010" "IF" then codes "S" gives 8 at 1 column 49 ∷
+    (leg "010" "IF" then leg "020" "TF" ++ codes "S") gives 1 at 2 column 133 ∷
+    (leg "010" "IF" then notes ++ codes "S") gives 8 at 1 column 49 ∷
+    (leg "010" "IF" then notes ++ codes "S" ++ leg "020" "TF" ++ codes "S") gives 1 at 2 column 133 ∷
+    take 131 missed gives 1 at 1 column 132 ∷  -- 1
+    missed gives 1 at 1 column 133 ∷
+    (missed ++ missed) gives 1 at 1 column 133 ∷
+    missed then codes "S" gives 1 at 2 column 2 ∷
     continued then codes "S" gives 1 at 2 column 2 ∷
-    approach then approach at 27 is "020" at 63 is "3601" then end gives 3 at 2 column 63 ∷  -- 3, 4
-    approach at 35 is "  " then approach at 63 is "3601" then end gives 4 at 1 column 35 ∷
-    approach at 63 is "3601" then approach at 35 is "  " then end gives 3 at 1 column 63 ∷
-    notes then end gives 6 at 1 column 39 ∷  -- 6
-    continued then notes then end gives 0 at 0 column 0 ∷
-    continued then notes then notes at 39 is "3" then leg "020" "CF" then end gives 0 at 0 column 0 ∷
-    continued then notes at 39 is "3" then end gives 6 at 2 column 39 ∷
-    continued then notes then notes then end gives 6 at 3 column 39 ∷
-    continued then notes at 30 is "OTHER" then end gives 6 at 2 column 30 ∷
-    continued then notes at 1 is "T" at 39 is "A" then end gives 6 at 2 column 39 ∷
-    approach then notes then end gives 6 at 2 column 39 ∷
-    continued then leg "020" "CF" then end gives 6 at 2 column 39 ∷
-    continued then leg "005" "CF" then end gives 6 at 2 column 39 ∷
+    missed then missed at 27 is "020" at 63 is "3601" then end gives 3 at 2 column 63 ∷  -- 3, 4
+    missed at 35 is "  " then missed at 63 is "3601" then end gives 4 at 1 column 35 ∷
+    missed at 63 is "3601" then missed at 35 is "  " then end gives 3 at 1 column 63 ∷
+    note then end gives 6 at 1 column 39 ∷  -- 6
+    continued then note then end gives 0 at 0 column 0 ∷
+    continued then note then note at 39 is "3" then missed at 27 is "020" then end gives 0 at 0 column 0 ∷
+    continued then note at 39 is "3" then end gives 6 at 2 column 39 ∷
+    continued then note then note then end gives 6 at 3 column 39 ∷
+    continued then note at 30 is "OTHER" then end gives 6 at 2 column 30 ∷
+    continued then note at 1 is "T" at 39 is "A" then end gives 6 at 2 column 39 ∷
+    missed then note then end gives 6 at 2 column 39 ∷
+    continued then missed at 27 is "020" then end gives 6 at 2 column 39 ∷
+    continued then missed at 27 is "005" then end gives 6 at 2 column 39 ∷
     continued then end gives 6 at 2 column 39 ∷
-    approach then approach then end gives 7 at 2 column 27 ∷  -- 7
-    approach then leg "009" "CF" then end gives 7 at 2 column 27 ∷
-    approach then leg "009" "TF" at 1 is "T" then end gives 8 at 2 column 48 ∷
-    approach at 1 is "T" then approach then end gives 7 at 2 column 1 ∷
-    approach then approach at 1 is "T" then approach then end gives 7 at 3 column 1 ∷
+    missed then missed then end gives 7 at 2 column 27 ∷  -- 7
+    missed then missed at 27 is "009" then end gives 7 at 2 column 27 ∷
+    missed then missed at 1 is "T" at 27 is "009" at 48 is "TF" then end gives 8 at 2 column 48 ∷
+    missed at 1 is "T" then missed then end gives 7 at 2 column 1 ∷
+    missed then missed at 1 is "T" then missed then end gives 7 at 3 column 1 ∷
     []
 
 worked : right vectors ≡ true
-unfolding vectors right same leg continued _gives_at_column_ _then_ _at_is_ approach notes codes texts fileVerdict sizeStage tailStage tailColumn inTurn leading records walkFrom finished last judgedNext primaryAfter continuationStage continuationColumn numberAfter firstDifference awaits orderStage sequenceStage legStage legStands firstLeg pair onlyFirst neverFirst followsFix judged judgedLeg stage companionColumn oddOne neededColumn neededOf missing blank member terminatorOf terminatorAt inOrder terminatorNumber nameOf among endsAtFix needed needs terminators firstAt equal order firstBadField layoutOf kindOf firstOf matches stands fitsAll fits part primary continuation
+unfolding vectors right same leg missed continued note _gives_at_column_ _then_ _at_is_ approach notes codes texts fileVerdict sizeStage tailStage tailColumn inTurn leading records starts pieces behindRecords recordWithin walkFrom followed endsRoute finished last judgedNext primaryAfter continuationStage continuationColumn numberAfter firstDifference awaits orderStage sequenceStage legStage legStands endingStage firstLeg lastLeg mayBegin mayEnd kindNumber kindAt ofKind routeKinds named pair readable mark page oldPair onlyFirst followsFix judged judgedLeg stage companionColumn oddOne neededColumn neededOf missing blank member terminatorOf terminatorAt inOrder terminatorNumber nameOf among endsAtFix needed needs terminators firstAt equal order firstBadField layoutOf kindOf firstOf matches stands fitsAll fits part primary continuation
 worked = refl

@@ -10,7 +10,7 @@ use Rattle.refusals.specs.declared.Verdict.{Verdict}
 use Rattle.refusals.specs.declared.Verdict.the-variants.{Accepted, Refused}
 use Rattle.leg.specs.Judge.{stage}
 use Rattle.routes.specs.InTurn.{inTurn}
-use Rattle.routes.specs.Sources.{records}
+use Rattle.routes.specs.Sources.{records, behindRecords}
 use Rattle.routes.specs.Stages.{nothing}
 use Rattle.routes.specs.Walk.{walkFrom, finished}
 
@@ -27,12 +27,13 @@ unfoldable pub tailStage : (bytes count : ℕ) → Verdict
 tailStage bytes count = stage (tailColumn (bytes - count * 133)) (cutShort (count + 1)) Accepted
 
 -- 2 first; then record by record. A record that is cut short, or whose byte 133 is no line feed, stands behind all those that are judged
--- by 3 to 8, so 1 comes after these; and it comes before a continuation that is missing there.
+-- by 3 to 8, so 1 comes after these; and it comes before a continuation that is missing there. What stands behind them is not judged by 3 to
+-- 8, but a leg before it is not the last of its route where another leg of that route is there, though it does not end in a line feed.
 unfoldable pub fileVerdict : List ℕ → Verdict
 fileVerdict f =
     inTurn
     (sizeStage f ∷
-    walkFrom nothing 1 (records f) ∷
+    walkFrom (behindRecords f) nothing 1 (records f) ∷
     tailStage (length f) (length (records f)) ∷
     finished (records f) ∷
     [])

@@ -4,7 +4,7 @@
 use Prim.Native.Nat.{ℕ, _+_, _-_, _/_}
 use mathlib.Core.Path.{_≡_}
 use mathlib.Core.Bool.{Bool, true, cond}
-use mathlib.Core.List.{List, [], _∷_, map}
+use mathlib.Core.List.{List, [], _∷_, _++_, map}
 use lib.Dec.{eqb, ltb}
 use lib.ListN.{getD, set}
 use Rattle.refusals.specs.declared.Verdict.{Verdict}
@@ -14,7 +14,7 @@ use Rattle.leg.specs.Legal.{Legal}
 use Rattle.routes.specs.InTurn.{inTurn}
 use Rattle.routes.specs.Sources.{firstOfLog, recordAt}
 use Rattle.routes.specs.Stages.{Seen, nothing}
-use Rattle.routes.specs.Walk.{judgedBehind, judgedNext, seenWith, finished}
+use Rattle.routes.specs.Walk.{endsRoute, judgedBehind, judgedNext, seenWith, finished}
 
 -- ---- the table
 
@@ -42,19 +42,19 @@ pub record Known (frozen log known : List ℕ) : Type 0 where
 -- ---- records in sequence
 
 -- one record after those seen: where it is known to be legal, 6, 7 and 8 alone
-unfoldable pub judgedKnowing : (known : Bool) → Seen → (place : ℕ) → List ℕ → Verdict
-judgedKnowing known s place rec = cond known (judgedBehind s place rec) (judgedNext s place rec)
+unfoldable pub judgedKnowing : (known : Bool) → Seen → (place : ℕ) (last : Bool) → List ℕ → Verdict
+judgedKnowing known s place last rec = cond known (judgedBehind s place last rec) (judgedNext s place last rec)
 
 module _ (known frozen log : List ℕ) where
-  -- the records of some sources one by one, the first at a place
-  unfoldable pub walkKnowing : Seen → (place : ℕ) → List ℕ → Verdict
-  walkKnowing s place [] = Accepted
-  walkKnowing s place (x ∷ xs) =
+  -- the records of some sources one by one, the first at a place, with others ahead of them
+  unfoldable pub walkKnowing : (ahead : List (List ℕ)) → Seen → (place : ℕ) → List ℕ → Verdict
+  walkKnowing ahead s place [] = Accepted
+  walkKnowing ahead s place (x ∷ xs) =
       inTurn
-      (judgedKnowing (knows known x) s place (recordAt frozen log x) ∷
-      walkKnowing (seenWith s (recordAt frozen log x)) (place + 1) xs ∷
+      (judgedKnowing (knows known x) s place (endsRoute (recordAt frozen log x) (map (recordAt frozen log) xs ++ ahead)) (recordAt frozen log x) ∷
+      walkKnowing ahead (seenWith s (recordAt frozen log x)) (place + 1) xs ∷
       [])
 
-  -- counted from 1, and then what is missing at their end
+  -- counted from 1, with nothing ahead of them, and then what is missing at their end
   unfoldable pub walkedKnowing : List ℕ → Verdict
-  walkedKnowing xs = inTurn (walkKnowing nothing 1 xs ∷ finished (map (recordAt frozen log) xs) ∷ [])
+  walkedKnowing xs = inTurn (walkKnowing [] nothing 1 xs ∷ finished (map (recordAt frozen log) xs) ∷ [])

@@ -1,6 +1,7 @@
 -- What the contracts of this crate cite, and what its theorems say in plain words.
 pub mod InTurn
 pub mod Sources
+pub mod LegTable
 pub mod Pairs
 pub mod Stages
 pub mod Walk

@@ -1,6 +1,6 @@
 -- Where records lie. A source is an offset in the frozen file; or, from 1,000,000 on, that and an offset in the log.
 -- Assumes nothing.
-use Prim.Native.Nat.{ℕ, zero, suc, _+_, _-_}
+use Prim.Native.Nat.{ℕ, zero, suc, _+_, _-_, _/_}
 use mathlib.Core.Bool.{cond}
 use mathlib.Core.List.{List, [], _∷_, map}
 use lib.Dec.{eqb, leb, ltb}
@@ -44,6 +44,13 @@ records f = leading 480 f
 unfoldable pub starts : ℕ → ℕ → List ℕ
 starts at zero = []
 starts at (suc n) = at ∷ starts (at + 133) n
+
+-- a file's pieces of 133 bytes, each without its last byte, and those of them that stand behind its records; a shorter tail is none
+unfoldable pub pieces : List ℕ → List (List ℕ)
+pieces f = map (recordWithin f) (starts 0 (length f / 133))
+
+unfoldable pub behindRecords : List ℕ → List (List ℕ)
+behindRecords f = drop (length (records f)) (pieces f)
 
 -- some sources; zeros past the count
 unfoldable pub sourcesFor : List ℕ → Sources

@@ -1,9 +1,9 @@
--- The stages that look at what stands before a record: 6 continuations, 7 order, 8 legs. Each is told where the key of a route ends, or
+-- The stages that look at what stands around a record: 6 continuations, 7 order, 8 legs. Each is told where the key of a route ends, or
 -- the head that a continuation shares with its primary, and in which column the continuation number stands.
 -- Assumes nothing.
 use Prim.Native.Nat.{ℕ, _+_}
 use Prim.Native.Char.{code}
-use mathlib.Core.Bool.{Bool, cond, _&&_}
+use mathlib.Core.Bool.{Bool, cond, not, _&&_}
 use mathlib.Core.List.{List, [], _∷_}
 use lib.Dec.{eqb, leb}
 use Rattle.slices.specs.Part.{part}
@@ -14,11 +14,11 @@ use Rattle.columns.specs.Rows.{byteIn}
 use Rattle.columns.specs.Words.{columns}
 use Rattle.columns.specs.declared.Kind.{Kind}
 use Rattle.columns.specs.declared.Kind.the-variants.{Primary, Continuation}
-use Rattle.refusals.specs.Table.{continuationHead, routeNotLater, sequenceNotRisen, legPair}
+use Rattle.refusals.specs.Table.{continuationHead, routeNotLater, sequenceNotRisen, legPair, legEnding}
 use Rattle.refusals.specs.declared.Verdict.{Verdict}
 use Rattle.refusals.specs.declared.Verdict.the-variants.{Accepted, Refused}
 use Rattle.leg.specs.Judge.{stage}
-use Rattle.routes.specs.Pairs.{terminatorIn, firstLeg, pair}
+use Rattle.routes.specs.Pairs.{terminatorIn, firstLeg, lastLeg, pair}
 
 -- what was seen: the last primary, and the record before this one. Where there was none yet it is the empty record, whose every column
 -- reads as 0: no number follows a 0, and every legal route is later than one of nothing but 0.
@@ -91,3 +91,7 @@ legStands key primary rec =
 unfoldable pub legStage : (key : ℕ) → Kind → (primary : List ℕ) (place : ℕ) → List ℕ → Verdict
 legStage key Continuation primary place rec = Accepted
 legStage key Primary primary place rec = cond (legStands key primary rec) Accepted (Refused (legPair place))
+
+-- a leg that is the last of its route may end it
+unfoldable pub endingStage : (last : Bool) (place : ℕ) → List ℕ → Verdict
+endingStage last place rec = cond (last && not (lastLeg rec)) (Refused (legEnding place)) Accepted

@@ -1,5 +1,6 @@
 // Files and routes: records judged in sequence. A record is given by its source, the place of its 132 bytes in one of two slices, so a
 // file and a route of corrected records are judged by one walk. Assumes nothing of the caller: any slices, any sources.
+mod ahead;
 pub mod known;
 mod pairs;
 mod record;
@@ -11,10 +12,11 @@ ghost use Prim.Native.Nat.{_≤_};
 ghost use lib.ListN.{length};
 ghost use Rattle.routes.specs.InTurn.{inTurn};
 ghost use Rattle.routes.specs.Known.{judgedKnowing, walkKnowing, walkedKnowing};
-ghost use Rattle.routes.specs.Sources.{logSource, recordAt, sourcesIn, recordsIn, sourcesOf};
+ghost use Rattle.routes.specs.Sources.{logSource, recordAt, sourcesIn, recordsIn, sourcesTo, records, sourcesOf};
 ghost use Rattle.routes.specs.Stages.{seen, nothing};
 ghost use Rattle.routes.specs.Walk.{judgedBehind, primaryAfter, finished, walked};
 ghost use Rattle.routes.specs.Files.{tailStage, fileVerdict};
+use ahead::ends_route;
 use columns::Kind;
 use known::NOTHING_KNOWN;
 use known::knows;
@@ -65,19 +67,31 @@ pub fn record_at<'a>(frozen: &'a [u8], log: &'a [u8], source: u32) -> &'a [u8]
     }
 }
 
-// The sources of a file's own records: the leading ones that end in a line feed.
-pub fn sources_of(file: &[u8]) -> Sources
-    ensures { λ r. ⌜ r ≡ sourcesOf (now (file .entry)) ⌝ }
+// How many records a file has: its leading pieces of 133 bytes that end in a line feed, at most 480.
+fn count_records(file: &[u8]) -> usize
+    ensures { λ r. ⌜ r ≡ length (records (now (file .entry))) ⌝ }
+{
+    let mut i: usize = 0;
+    while i < MOST_RECORDS {
+        if slices::byte_at(file, i * LINE_WIDTH + RECORD_WIDTH) != 10 {
+            return i;
+        }
+        i += 1;
+    }
+    i
+}
+
+// The sources of the first n pieces of a file.
+fn sources_to(n: usize) -> Sources
+    requires { ⌜ n ≤ 480 ⌝ }
+    ensures { λ r. ⌜ r ≡ sourcesTo n ⌝ }
 {
     let mut found = Sources {
         count: 0,
         at: [0u32; MOST_RECORDS],
     };
     let mut i: usize = 0;
-    while i < MOST_RECORDS {
-        if slices::byte_at(file, i * LINE_WIDTH + RECORD_WIDTH) != 10 {
-            return found;
-        }
+    while i < n {
         found.at[i] = (i * LINE_WIDTH) as u32;
         i += 1;
         found.count = i;
@@ -85,16 +99,32 @@ pub fn sources_of(file: &[u8]) -> Sources
     found
 }
 
-// Judges one record by what stands before it, the last primary and the record before this one: 6, 7, 8. Both are empty where nothing does.
-fn judge_behind<'a>(primary: &'a [u8], before: &'a [u8], rec: &'a [u8], place: usize) -> Verdict
-    ensures { λ r. ⌜ r ≡ judgedBehind (seen (now (primary .entry)) (now (before .entry))) place (now (rec .entry)) ⌝ }
+// The sources of a file's own records: the leading ones that end in a line feed.
+pub fn sources_of(file: &[u8]) -> Sources
+    ensures { λ r. ⌜ r ≡ sourcesOf (now (file .entry)) ⌝ }
+{
+    let count = count_records(file);
+    sources_to(count)
+}
+
+// Judges one record by what stands before it, the last primary and the record before this one, and by whether it is the last leg of its
+// route: 6, 7, 8. Both records are empty where nothing stands before it.
+fn judge_behind<'a>(
+    primary: &'a [u8],
+    before: &'a [u8],
+    rec: &'a [u8],
+    place: usize,
+    last: bool,
+) -> Verdict
+    ensures { λ r. ⌜ r ≡ judgedBehind (seen (now (primary .entry)) (now (before .entry))) place last (now (rec .entry)) ⌝ }
 {
     let kind = columns::kind_of(rec);
     let continued = stages::continuation_stage(HEAD, NUMBER, kind, primary, before, rec, place);
     let sequence = stages::sequence_stage(primary, rec, place);
     let ordered = stages::order_stage(KEY, kind, primary, rec, place, sequence);
     let flown = stages::leg_stage(KEY, kind, primary, rec, place);
-    in_turn(continued, in_turn(ordered, flown))
+    let ending = stages::ending_stage(last, rec, place);
+    in_turn(continued, in_turn(ordered, in_turn(flown, ending)))
 }
 
 // Judges one record after the last primary and the record before it: 3, 4, 5 by itself, unless it is known to be legal, then 6, 7, 8.
@@ -104,10 +134,11 @@ fn judge_next<'a>(
     before: &'a [u8],
     rec: &'a [u8],
     place: usize,
+    last: bool,
 ) -> Verdict
-    ensures { λ r. ⌜ r ≡ judgedKnowing known (seen (now (primary .entry)) (now (before .entry))) place (now (rec .entry)) ⌝ }
+    ensures { λ r. ⌜ r ≡ judgedKnowing known (seen (now (primary .entry)) (now (before .entry))) place last (now (rec .entry)) ⌝ }
 {
-    let behind = judge_behind(primary, before, rec, place);
+    let behind = judge_behind(primary, before, rec, place, last);
     if known {
         return behind;
     }
@@ -136,8 +167,8 @@ fn primary_after<'a>(primary: &'a [u8], rec: &'a [u8]) -> &'a [u8]
     }
 }
 
-// Judges the records of a range of sources in sequence, counted from 1; what follows the last of them is not looked at. Those that a table
-// knows are not judged by themselves.
+// Judges the records of a range of sources in sequence, counted from 1. Those from there on up to `ahead` are looked at, and not judged.
+// Records that a table knows are not judged by themselves.
 fn walk<'a>(
     frozen: &'a [u8],
     log: &'a [u8],
@@ -145,11 +176,16 @@ fn walk<'a>(
     sources: Sources,
     from: usize,
     to: usize,
+    ahead: usize,
 ) -> Verdict
-    ensures { λ r. ⌜ r ≡ walkKnowing (now (known .entry)) (now (frozen .entry)) (now (log .entry)) nothing 1 (sourcesIn sources from to) ⌝ }
+    requires { ⌜ to ≤ ahead ⌝ }
+    ensures { λ r. ⌜ r ≡ walkKnowing (now (known .entry)) (now (frozen .entry)) (now (log .entry)) (recordsIn (now (frozen .entry)) (now (log .entry)) sources to ahead) nothing 1 (sourcesIn sources from to) ⌝ }
 {
     let count = sources.count;
-    let end = least(to, least(count, MOST_RECORDS));
+    let all = sources.at;
+    let used = least(count, MOST_RECORDS);
+    let view = least(ahead, used);
+    let end = least(to, used);
     let mut primary = &frozen[0..0];
     let mut before = &frozen[0..0];
     let mut i = from;
@@ -157,15 +193,16 @@ fn walk<'a>(
         let source = sources.at[i];
         let legal = knows(known, source);
         let rec = record_at(frozen, log, source);
-        let verdict = judge_next(legal, primary, before, rec, i - from + 1);
+        let last = ends_route(frozen, log, &all, i + 1, view, rec);
+        let verdict = judge_next(legal, primary, before, rec, i - from + 1, last);
         match verdict {
             Verdict::Accepted => {}
             Verdict::Refused(r) => {
                 return Verdict::Refused(r);
             }
         }
-        let last = primary_after(primary, rec);
-        primary = last;
+        let newest = primary_after(primary, rec);
+        primary = newest;
         before = rec;
         i += 1;
     }
@@ -202,7 +239,7 @@ pub fn judge_known<'a>(
 ) -> Verdict
     ensures { λ r. ⌜ r ≡ walkedKnowing (now (known .entry)) (now (frozen .entry)) (now (log .entry)) (sourcesIn sources from to) ⌝ }
 {
-    let judged = walk(frozen, log, known, sources, from, to);
+    let judged = walk(frozen, log, known, sources, from, to, to);
     let finished = finish(frozen, log, sources, from, to);
     in_turn(judged, finished)
 }
@@ -236,17 +273,19 @@ fn judge_tail(file: &[u8], n: usize) -> Verdict
     Verdict::Refused(Refusal::cut_short(n + 1, LINE_WIDTH))
 }
 
-// Judges a file: 2 for its size; then record by record 1, 3, 4, 5, 6, 7, 8; a continuation that is missing past the last record.
+// Judges a file: 2 for its size; then record by record 1, 3, 4, 5, 6, 7, 8; a continuation that is missing past the last record. A piece of
+// 133 bytes behind the records, which does not end in a line feed, is looked at for the last leg of a route.
 pub fn check(file: &[u8]) -> Verdict
     ensures { λ r. ⌜ r ≡ fileVerdict (now (file .entry)) ⌝ }
 {
     if LONGEST_FILE < file.len() {
         return Verdict::Refused(Refusal::too_many_records());
     }
-    let sources = sources_of(file);
-    let count = sources.count;
-    let judged = walk(file, file, &NOTHING_KNOWN, sources, 0, count);
+    let count = count_records(file);
+    let whole = file.len() / LINE_WIDTH;
+    let pieces = sources_to(whole);
+    let judged = walk(file, file, &NOTHING_KNOWN, pieces, 0, count, whole);
     let tail = judge_tail(file, count);
-    let finished = finish(file, file, sources, 0, count);
+    let finished = finish(file, file, pieces, 0, count);
     in_turn(judged, in_turn(tail, finished))
 }

@@ -1,25 +1,130 @@
-// The first leg of a route, and which leg may follow which. Assumes nothing.
+// Which leg may begin and which may end a route of which kind, and which may follow which: Attachment 5's tables, as specs/LegTable sets
+// them out. Assumes nothing.
 ghost use mathlib.Core.Path.{_≡_};
-ghost use Rattle.routes.specs.Pairs.{firstLeg, pair};
+ghost use Prim.Native.Nat.{_≤_};
+ghost use Rattle.slices.specs.Search.{firstAt};
+ghost use Rattle.columns.specs.Rows.{byteIn};
+ghost use Rattle.routes.specs.Pairs.{kindLines, ofLine, kindNumber, firstLeg, lastLeg, pair};
+use columns::field::Field;
 use leg::terminator::Terminator;
+use slices::byte_at;
+use slices::has;
 
-// For each terminator, in their order: I, only the first leg; T, never the first, and otherwise after a leg that ends at a fix; F, after
-// such a leg unless it is the first; blank, anywhere.
-const RULES: [u8; 23] = *b"       FFFFFFFIFTT     ";
+// A line for each leg, a cell for each that may come behind it, in the order of the terminators: + where it may, - where not.
+const PAIRS: [u8; 529] = *b"\
+    ++++++++++++++-++++++++\
+    +++++++-----------+++++\
+    +++++++-----------+++++\
+    ++++++++++++++-++++++++\
+    +++++++-----------+++++\
+    +++++++-----------+++++\
+    ++++++++++++++-++++++++\
+    +++++++-----------+++++\
+    +++++++-----------+++++\
+    +++++++-----------+++++\
+    +++++++-----------+++++\
+    ++++++++++++++-++++++++\
+    ++++++++++++++-++++++++\
+    ++++++++++++++-++++++++\
+    +++++++++++++++++++++++\
+    +++++++-----------+++++\
+    ++++++++++++++-++++++++\
+    ++++++++++++++-++++++++\
+    +++++++-----------+++++\
+    +++++++-----------+++++\
+    +++++++-----------+++++\
+    +++++++-----------+++++\
+    +++++++-----------+++++";
+
+// A line for each kind of route, a cell for each leg: whether it may begin a route of that kind, and whether it may end one.
+const BEGINNINGS: [u8; 207] = *b"\
+    -++++++++++-------+++++\
+    -++++++++++---+---+++++\
+    -------+++----+--------\
+    --------++----+--------\
+    --------++----+--------\
+    --------++--+-+--------\
+    --------++--+-++-------\
+    --------------+--------\
+    ++++++++++++-+--+-+++++";
+
+const ENDINGS: [u8; 207] = *b"\
+    +--+--+---++-+---+---+-\
+    +--+--+----+--+--+-----\
+    +--+--+----+-----+-----\
+    +--+--+----+-----+-----\
+    +--+--+---+---+--+---+-\
+    +--+------+-++---+---+-\
+    +--++-------++-+++--+--\
+    ++-+--+---+--+---++--+-\
+    ++-+--+---+--+---++--+-";
+
+// For each kind of route the subsection, and the route types with blanks up to eighteen places.
+const KINDS: [u8; 171] = *b"\
+    D014FT             \
+    D25M               \
+    D36SV              \
+    E147F              \
+    E258M              \
+    E369S              \
+    FA                 \
+    FBEFGIJKLMNPRTUVWXY\
+    FZ                 ";
+
+// The columns of a record's subsection and route type.
+const SUBSECTION: usize = Field::SUBSECTION.0;
+
+const ROUTE_TYPE: usize = Field::ROUTE_TYPE.0;
+
+// The first of nine lines of a table that is of a record's subsection and route type, or 9 where none is.
+fn kind_among(kinds: &[u8], rec: &[u8]) -> usize
+    ensures { λ r. ⌜ r ≡ firstAt (ofLine (now (kinds .entry)) (byteIn 13 (now (rec .entry))) (byteIn 20 (now (rec .entry)))) kindLines ⌝ }
+{
+    let subsection = byte_at(rec, SUBSECTION - 1);
+    let route_type = byte_at(rec, ROUTE_TYPE - 1);
+    let mut i = 0;
+    while i < 9 {
+        let at = i * 19;
+        if (byte_at(kinds, at) == subsection)
+            & ((route_type != b' ') & has(kinds, at + 1, 18, route_type))
+        {
+            return i;
+        }
+        i += 1;
+    }
+    i
+}
+
+// The place of the kind of a record's route among the nine, or 9 where it is of none, which is refused by 3 before anything asks.
+fn kind_number(rec: &[u8]) -> usize
+    ensures { λ r. ⌜ (r ≡ kindNumber (now (rec .entry))) × (r ≤ 9) ⌝ }
+{
+    kind_among(&KINDS, rec)
+}
 
 // Whether the record may be the first leg of its route.
 pub(crate) fn first_leg(rec: &[u8]) -> bool
     ensures { λ r. ⌜ r ≡ firstLeg (now (rec .entry)) ⌝ }
 {
+    let k = kind_number(rec);
     let n = Terminator::of(rec).number();
-    RULES[n] != b'T'
+    byte_at(&BEGINNINGS, k * 23 + n) == b'+'
+}
+
+// Whether the record may be the last leg of its route.
+pub(crate) fn last_leg(rec: &[u8]) -> bool
+    ensures { λ r. ⌜ r ≡ lastLeg (now (rec .entry)) ⌝ }
+{
+    let k = kind_number(rec);
+    let n = Terminator::of(rec).number();
+    byte_at(&ENDINGS, k * 23 + n) == b'+'
 }
 
 // Whether a leg of u may follow a leg of t within a route.
 pub(crate) fn pair(t: Terminator, u: Terminator) -> bool
     ensures { λ r. ⌜ r ≡ pair t u ⌝ }
 {
+    let m = t.number();
     let n = u.number();
-    let rule = RULES[n];
-    (rule != b'I') & (t.ends_at_fix() | ((rule != b'T') & (rule != b'F')))
+    PAIRS[m * 23 + n] == b'+'
 }

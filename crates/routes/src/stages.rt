@@ -1,4 +1,4 @@
-// The stages that look at what stands before a record: 6 continuations, 7 order, 8 legs. Where nothing stood before it, `primary` and
+// The stages that look at what stands around a record: 6 continuations, 7 order, 8 legs. Where nothing stood before it, `primary` and
 // `before` are empty. Assumes of its callers, all in this crate, that columns count from 1.
 ghost use mathlib.Core.Path.{_≡_};
 ghost use Prim.Native.Nat.{_≤_};
@@ -14,6 +14,7 @@ ghost use Rattle.routes.specs.Stages.{
   orderStage,
   legStands,
   legStage,
+  endingStage,
 };
 use crate::pairs;
 use columns::Kind;
@@ -155,7 +156,7 @@ fn leg_stands<'a>(key: usize, primary: &'a [u8], rec: &'a [u8]) -> bool
     pairs::first_leg(rec)
 }
 
-// Stage 8.
+// Stage 8, of a primary and what stands before it.
 pub(crate) fn leg_stage<'a>(
     key: usize,
     kind: Kind,
@@ -175,4 +176,16 @@ pub(crate) fn leg_stage<'a>(
         }
         Kind::Continuation => Verdict::Accepted,
     }
+}
+
+// Stage 8, of the last leg of a route.
+pub(crate) fn ending_stage(last: bool, rec: &[u8], place: usize) -> Verdict
+    ensures { λ r. ⌜ r ≡ endingStage last place (now (rec .entry)) ⌝ }
+{
+    if last {
+        if !pairs::last_leg(rec) {
+            return Verdict::Refused(Refusal::leg_ending(place));
+        }
+    }
+    Verdict::Accepted
 }

@@ -1,6 +1,9 @@
--- The file's own sources give its own records; then stage by stage. Assumes nothing.
-use Rattle.routes.proofs.SourceLaws.{own-count}
-use Rattle.routes.proofs.FileLaws.{too-long, not-too-long, own-walk, own-tail, own-finish}
+-- The sources of the file's pieces give its own records and what is behind them; then stage by stage. Assumes nothing.
+use mathlib.Core.Path.{refl}
+use native.Mathlib.Omega.{arith}
+use Rattle.routes.specs.Sources.{records}
+use Rattle.routes.proofs.SourceLaws.{at-most, fewer}
+use Rattle.routes.proofs.FileLaws.{too-long, not-too-long, own-walk, own-finish, own-tail}
 use Rattle.routes.proofs.KnownLaws.{known-nothing}
 use borrow.Author.Needs.{needs}
 use Rattle.routes.proofs.check.Statement.{statement}
@@ -12,17 +15,21 @@ too-many-records-requires c κs = search needs
 returns : tie.Need-returns
 returns c = too-long _ (c .before .if1 .taken) (c .too-many-records .ensures)
 
-sources-of-requires : tie.Need-sources-of-requires
-sources-of-requires c κs = search needs
+count-records-requires : tie.Need-count-records-requires
+count-records-requires c κs = search needs
+
+sources-to-requires : tie.Need-sources-to-requires
+sources-to-requires c κs = search needs
 
 slice-aggregate-walk : tie.Need-slice-aggregate-walk
 slice-aggregate-walk c = search needs
 
 walk-requires : tie.Need-walk-requires
-walk-requires c κs = search needs
+walk-requires c κs = fewer _ refl (c .before .before .count-records .ensures)
 
 judge-tail-requires : tie.Need-judge-tail-requires
-judge-tail-requires c κs = own-count _ (c .before .before .sources-of .ensures) .1
+unfolding records
+judge-tail-requires c κs = rw (c .before .before .before .count-records .ensures) (at-most 480 _)
 
 finish-requires : tie.Need-finish-requires
 finish-requires c κs = search needs
@@ -35,11 +42,14 @@ in-turn-requires-2 c κs = search needs
 
 returns-2 : tie.Need-returns-2
 returns-2 c =
-    let made = c .before .before .before .before .before .before in
-    not-too-long _ (made .before .if1 .left)
-    (own-walk _ _ (known-nothing _ _ 1) (made .sources-of .ensures) (c .before .before .before .before .walk .ensures))
-    (own-tail _ (made .sources-of .ensures) (c .before .before .before .judge-tail .ensures))
-    (own-finish _ _ (made .sources-of .ensures) (c .before .before .finish .ensures))
+    let walked = c .before .before .before .before in
+    let made = walked .before .before in
+    let counted = made .before in
+    let short = counted .before .if1 .left in
+    not-too-long _ short
+    (own-walk _ refl (counted .count-records .ensures) short (made .sources-to .ensures) (known-nothing _ _ 1) (walked .walk .ensures))
+    (own-tail _ (counted .count-records .ensures) (c .before .before .before .judge-tail .ensures))
+    (own-finish _ refl (counted .count-records .ensures) short (made .sources-to .ensures) (c .before .before .finish .ensures))
     (c .before .in-turn .ensures)
     (c .in-turn2 .ensures)
 
@@ -49,7 +59,8 @@ check-spec =
     (tie.spec
     too-many-records-requires
     returns
-    sources-of-requires
+    count-records-requires
+    sources-to-requires
     slice-aggregate-walk
     walk-requires
     judge-tail-requires

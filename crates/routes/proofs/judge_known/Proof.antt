@@ -1,6 +1,5 @@
 -- The walk, then what is missing at its end. Assumes nothing.
-use Rattle.routes.specs.Sources.{recordsIn}
-use Rattle.routes.specs.Known.{walkedKnowing}
+use Rattle.routes.proofs.FileLaws.{range-alone}
 use borrow.Author.Needs.{needs}
 use Rattle.routes.proofs.judge_known.Statement.{statement}
 use Rattle.routes.proofs.judge_known.Tie as tie
@@ -15,8 +14,7 @@ in-turn-requires : tie.Need-in-turn-requires
 in-turn-requires c κs = search needs
 
 returns : tie.Need-returns
-unfolding walkedKnowing recordsIn
-returns c = rw (← c .before .before .walk .ensures, ← c .before .finish .ensures) (c .in-turn .ensures)
+returns c = range-alone _ _ _ _ _ _ (c .before .before .walk .ensures) (c .before .finish .ensures) (c .in-turn .ensures)
 
 pub judge-known-spec : {M : Type 1} → statement M
 judge-known-spec = tie.close (tie.spec walk-requires finish-requires in-turn-requires returns)
