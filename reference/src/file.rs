@@ -1,21 +1,18 @@
 //! The judgement of a whole file: its size (2), and record by record the line
-//! (1), the record alone (3, 4, 5), continuations (6), order (7), legs (8).
+//! (1), the record alone (3, 4, 5), continuations (6), order (7), legs (8). A leg
+//! is judged as the first or behind the one before it, and then, where it is the
+//! last of its route, as the last.
 
 use std::cmp::Ordering;
 
-use crate::judge::judge;
+use crate::judge::{is_continuation, judge};
 use crate::layout::{columns, continues};
+use crate::legs::{kind_of, may_begin, may_end, may_follow};
 use crate::Refusal;
 
 /// A record with its line feed.
 pub const LINE: usize = 133;
 const MOST_RECORDS: usize = 480;
-
-/// Legs that are never first, legs that want a fix before them unless they are
-/// first, and legs that end at a fix.
-const NEVER_FIRST: [&str; 2] = ["TF", "RF"];
-const AFTER_A_FIX: [&str; 10] = ["TF", "RF", "HA", "HF", "HM", "PI", "FA", "FC", "FD", "FM"];
-const AT_A_FIX: [&str; 9] = ["IF", "TF", "CF", "DF", "AF", "RF", "HA", "HF", "HM"];
 
 pub fn check(file: &[u8]) -> Result<(), Refusal> {
     if file.len() > MOST_RECORDS * LINE {
@@ -32,7 +29,9 @@ pub fn check(file: &[u8]) -> Result<(), Refusal> {
         if line[LINE - 1] != b'\n' {
             return refuse(1, LINE);
         }
-        if let Err((number, column)) = walk.take(&line[..LINE - 1]) {
+        // What lies behind is looked at by its columns, whatever its line ends with; a piece cut short is not.
+        let ahead = file[place * LINE..].chunks_exact(LINE).map(|line| &line[..LINE - 1]);
+        if let Err((number, column)) = walk.take(&line[..LINE - 1], ahead) {
             return refuse(number, column);
         }
     }
@@ -51,7 +50,8 @@ struct Walk<'a> {
 }
 
 impl<'a> Walk<'a> {
-    fn take(&mut self, rec: &'a [u8]) -> Result<(), (u8, usize)> {
+    /// Takes one more record, with those that lie behind it.
+    fn take(&mut self, rec: &'a [u8], ahead: impl Iterator<Item = &'a [u8]>) -> Result<(), (u8, usize)> {
         judge(rec)?;
         let number = rec[38];
         if continues(number) {
@@ -61,6 +61,9 @@ impl<'a> Walk<'a> {
                 return Err((6, 39));
             }
             self.in_order(rec)?;
+            if is_last(rec, ahead) && !may_end(kind(rec), terminator(rec)) {
+                return Err((8, 49));
+            }
             self.primary = Some(rec);
         }
         self.number = Some(number);
@@ -79,8 +82,6 @@ impl<'a> Walk<'a> {
     }
 
     fn in_order(&self, rec: &[u8]) -> Result<(), (u8, usize)> {
-        let route = |record| columns(record, (1, 25));
-        let leg = |record| String::from_utf8_lossy(columns(record, (48, 49))).into_owned();
         let before = self.primary.map(|primary| (primary, route(primary).cmp(route(rec))));
         let stands = match before {
             Some((_, Ordering::Greater)) => return Err((7, 1)),
@@ -88,9 +89,9 @@ impl<'a> Walk<'a> {
                 if columns(primary, (27, 29)) >= columns(rec, (27, 29)) {
                     return Err((7, 27));
                 }
-                may_follow(&leg(primary), &leg(rec))
+                may_follow(terminator(primary), terminator(rec))
             }
-            _ => !NEVER_FIRST.contains(&leg(rec).as_str()),
+            _ => may_begin(kind(rec), terminator(rec)),
         };
         if stands {
             Ok(())
@@ -100,8 +101,28 @@ impl<'a> Walk<'a> {
     }
 }
 
-fn may_follow(before: &str, leg: &str) -> bool {
-    leg != "IF" && (!AFTER_A_FIX.contains(&leg) || AT_A_FIX.contains(&before))
+fn route(rec: &[u8]) -> &[u8] {
+    columns(rec, (1, 25))
+}
+
+/// A field of a record that was judged good.
+fn text(rec: &[u8], field: (usize, usize)) -> &str {
+    std::str::from_utf8(columns(rec, field)).expect("a code is text")
+}
+
+fn terminator(rec: &[u8]) -> &str {
+    text(rec, (48, 49))
+}
+
+/// The row of a leg's route in the table of first and last legs.
+fn kind(rec: &[u8]) -> usize {
+    kind_of(text(rec, (13, 13)), text(rec, (20, 20))).expect("each route type has its row")
+}
+
+/// Whether no primary comes behind a leg before its route ends. Continuations
+/// are looked past, however they are numbered.
+fn is_last<'a>(leg: &[u8], ahead: impl Iterator<Item = &'a [u8]>) -> bool {
+    ahead.take_while(|rec| route(rec) == route(leg)).all(is_continuation)
 }
 
 /// 1 to 9, then A to Z.

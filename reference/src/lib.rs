@@ -9,6 +9,7 @@
 //! - `record`: from 133 bytes to parts, and back
 //! - `cases`: the stored set of records
 //! - `report`: what this program answers to that set
+//! - `legs`: which leg may begin a route, follow another and end a route
 //! - `file`: a whole file, and the stages that look at several records (1, 2, 6, 7, 8)
 //! - `files`: the stored set of files, and what this program answers to it
 //! - `log`: a correction log as text (9, 13)
@@ -32,6 +33,7 @@ pub mod files;
 pub mod folders;
 pub mod judge;
 pub mod layout;
+pub mod legs;
 pub mod log;
 pub mod logs;
 pub mod parts;
