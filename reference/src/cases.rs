@@ -136,7 +136,7 @@ fn group(letter: char) -> Vec<(usize, usize)> {
 }
 
 /// The 23 terminators, each with the letters of its needed fields.
-pub(crate) fn each_terminator() -> impl Iterator<Item = (&'static str, &'static str)> {
+fn each_terminator() -> impl Iterator<Item = (&'static str, &'static str)> {
     TERMINATORS.iter().flat_map(|(names, needed)| names.split(' ').map(move |name| (name, *needed)))
 }
 

@@ -10,8 +10,9 @@
 //! - 4, b, 0: one more byte
 //! - 5, 0, 0: behind a 0, 0, 0: the file begins as all of the one before it
 
-use crate::cases::{each_terminator, Dice, CONTINUATION, LEG};
+use crate::cases::{Dice, CONTINUATION, LEG};
 use crate::file::{check, LINE};
+use crate::legs::{may_begin, terminators, ROUTE_KINDS};
 use crate::Stored;
 
 /// The stored set of files and the answers.
@@ -37,7 +38,7 @@ fn answers(set: &[Vec<u8>]) -> String {
 
 /// The records that the instructions build on, each of 132 bytes.
 fn bases() -> Vec<Vec<u8>> {
-    [LEG, CONTINUATION].map(|base| base.as_bytes()[..LINE - 1].to_vec()).to_vec()
+    [LEG, CONTINUATION].map(|base| changed(&base.as_bytes()[..LINE - 1], &[MISSED_APPROACH])).to_vec()
 }
 
 /// What makes the files, each from nothing or out of the one before it, as it
@@ -116,6 +117,10 @@ pub fn made_by(instructions: &[u8]) -> Vec<Vec<u8>> {
 
 pub(crate) type Change<'a> = (usize, &'a str);
 
+/// The route type that all records have where nothing else is said: of its legs
+/// a CF may begin a route, go on with it and end it.
+const MISSED_APPROACH: Change = (20, "Z");
+
 pub(crate) fn changed(base: &[u8], changes: &[Change]) -> Vec<u8> {
     let mut record = base.to_vec();
     for (first, bytes) in changes {
@@ -126,22 +131,26 @@ pub(crate) fn changed(base: &[u8], changes: &[Change]) -> Vec<u8> {
 
 /// A good leg with a sequence number, and its line feed.
 pub(crate) fn leg(sequence: usize, changes: &[Change]) -> Vec<u8> {
-    changed(&changed(LEG.as_bytes(), &[(27, &format!("{sequence:03}"))]), changes)
+    changed(&changed(LEG.as_bytes(), &[MISSED_APPROACH, (27, &format!("{sequence:03}"))]), changes)
 }
 
 /// A good continuation of that leg with a continuation number.
 pub(crate) fn continuation(sequence: usize, number: char, changes: &[Change]) -> Vec<u8> {
-    let own = changed(CONTINUATION.as_bytes(), &[(27, &format!("{sequence:03}")), (39, &number.to_string())]);
-    changed(&own, changes)
-}
-
-fn terminators() -> Vec<&'static str> {
-    each_terminator().map(|(name, _)| name).collect()
+    let own: [Change; 3] = [MISSED_APPROACH, (27, &format!("{sequence:03}")), (39, &number.to_string())];
+    changed(&changed(CONTINUATION.as_bytes(), &own), changes)
 }
 
 /// Legs of one route, one after the other.
 fn legs(count: usize) -> Vec<Vec<u8>> {
     (1..=count).map(|n| leg(n, &[])).collect()
+}
+
+/// A route with these terminators. Its subsection and route type are two letters.
+fn route(kind: &str, terminators: &[&str]) -> Vec<u8> {
+    let (subsection, route_type) = kind.split_at(1);
+    let leg =
+        |(sequence, name): (usize, &&str)| leg(sequence, &[(13, subsection), (20, route_type), (48, name)]);
+    (30..).zip(terminators).flat_map(leg).collect()
 }
 
 /// Five good records: a leg with two continuations, and two legs.
@@ -164,6 +173,9 @@ pub fn all() -> Vec<Vec<u8>> {
     continued(&mut files);
     routes(&mut files);
     pairs(&mut files);
+    beginnings_and_endings(&mut files);
+    last_legs(&mut files);
+    last_legs_and_faults(&mut files);
     each_refusal(&mut files);
     several_faults(&mut files);
     cuts(&mut files);
@@ -225,7 +237,7 @@ fn continued(files: &mut Vec<Vec<u8>>) {
 /// Routes that rise, fall, come twice and are mixed; sequence numbers that
 /// rise, stay and fall.
 fn routes(files: &mut Vec<Vec<u8>>) {
-    let route = |transition: &str, sequence: usize| leg(sequence, &[(21, transition)]);
+    let of = |transition: &str, sequence: usize| leg(sequence, &[(21, transition)]);
     let orders: &[&[(&str, usize)]] = &[
         &[("AAA  ", 10), ("BBB  ", 10), ("CCC  ", 10)],
         &[("AAA  ", 20), ("BBB  ", 10), ("CCC  ", 5)],
@@ -248,11 +260,7 @@ fn routes(files: &mut Vec<Vec<u8>>) {
     ];
     for order in orders {
         files.push(
-            order
-                .iter()
-                .map(|(transition, sequence)| route(transition, *sequence))
-                .collect::<Vec<_>>()
-                .concat(),
+            order.iter().map(|(transition, sequence)| of(transition, *sequence)).collect::<Vec<_>>().concat(),
         );
     }
     // The first column that differs decides, and 26 is none of a route.
@@ -262,20 +270,160 @@ fn routes(files: &mut Vec<Vec<u8>>) {
     files.push([leg(10, &[]), leg(20, &[(26, "A")])].concat());
 }
 
-/// Every terminator first, and every ordered pair.
+/// Every ordered pair, in a route that is good before and behind it.
 fn pairs(files: &mut Vec<Vec<u8>>) {
     for first in terminators() {
-        files.push(leg(30, &[(48, first)]));
+        let (kind, before): (_, &[&str]) = match first {
+            "IF" => ("FI", &[]),
+            "HF" | "PI" | "TF" => ("FZ", &["CF"]),
+            _ => ("FZ", &[]),
+        };
         for second in terminators() {
-            // A first leg that may stand there, so that the pair itself is judged.
-            let opening = leg(28, &[(48, "IF")]);
-            let before = leg(29, &[(48, first)]);
-            let second = leg(30, &[(48, second)]);
-            match first {
-                "TF" | "RF" => files.push([opening, before, second].concat()),
-                _ => files.push([before, second].concat()),
+            files.push(route(kind, &[before, &[first, second, "CF"]].concat()));
+        }
+    }
+    // A fix may stand behind a fix alone: not where rule 3.12 has one.
+    for terminators in ["IF IF IF TF", "IF IF", "IF TF IF", "VI IF TF", "IF VI IF TF", "CF IF TF"] {
+        for kind in ["D2", "E2", "FI"] {
+            files.push(route(kind, &terminators.split(' ').collect::<Vec<_>>()));
+        }
+    }
+}
+
+/// The subsection and route type of some kind of route, by the number of its row:
+/// another one of the row with each turn.
+fn kind_in_turn(row: usize, turn: usize) -> String {
+    let kind = &ROUTE_KINDS[row];
+    let types: Vec<&str> = kind.route_types.split(' ').collect();
+    [kind.subsection, types[turn % types.len()]].concat()
+}
+
+/// In each of the nine rows every terminator first, last, and alone.
+fn beginnings_and_endings(files: &mut Vec<Vec<u8>>) {
+    for row in 0..ROUTE_KINDS.len() {
+        let opening = if may_begin(row, "IF") { "IF" } else { "CF" };
+        for (turn, name) in terminators().enumerate() {
+            let kind = kind_in_turn(row, turn);
+            files.push(route(&kind, &[name]));
+            files.push(route(&kind, &[name, "CF"]));
+            files.push(route(&kind, &[opening, name]));
+        }
+    }
+    // Two routes that tell the rows of a subsection from each other, for every route type.
+    let telling = [("D", ["IF CF", "CA CF"]), ("E", ["HF CF", "IF IF"]), ("F", ["CA CF", "FC CF"])];
+    for (subsection, routes) in telling {
+        for kind in ROUTE_KINDS.iter().filter(|kind| kind.subsection == subsection) {
+            for route_type in kind.route_types.split(' ') {
+                for terminators in routes {
+                    let names: Vec<&str> = terminators.split(' ').collect();
+                    files.push(route(&[subsection, route_type].concat(), &names));
+                }
             }
         }
+    }
+}
+
+/// A leg that may not end its route, and one that may, before all that can lie
+/// behind them: continuations of every number, other routes, pieces without a
+/// line feed and short tails.
+fn last_legs(files: &mut Vec<Vec<u8>>) {
+    let next = leg(20, &[]);
+    let [two, three, nine] = ['2', '3', '9'].map(|number| continuation(10, number, &[]));
+    let all: Vec<u8> = ('2'..='9').chain('A'..='Z').flat_map(|n| continuation(10, n, &[])).collect();
+    let other_sequence = continuation(30, '2', &[]);
+    let other_route = |record: &[u8]| changed(record, &[(25, "Q")]);
+    let no_feed = |record: &[u8]| changed(record, &[(133, " ")]);
+    let mut behind: Vec<Vec<u8>> = vec![
+        vec![],
+        next.clone(),
+        two.clone(),
+        three.clone(),
+        nine.clone(),
+        other_sequence.clone(),
+        [&two[..], &three].concat(),
+        [&two[..], &two, &nine].concat(),
+        [&two[..], &next].concat(),
+        [&nine[..], &next].concat(),
+        [&other_sequence[..], &next].concat(),
+        [&two[..], &three, &nine, &nine, &next].concat(),
+        all.clone(),
+        [&all[..], &next].concat(),
+        // A second leg that may not end the route either.
+        leg(20, &[(48, "CI")]),
+        [leg(20, &[(39, "1"), (48, "CI")]), continuation(20, '2', &[])].concat(),
+        // Other routes, and a continuation of one.
+        other_route(&next),
+        other_route(&two),
+        [other_route(&two), next.clone()].concat(),
+        [&two[..], &other_route(&three), &next].concat(),
+        [&two[..], &other_route(&next)].concat(),
+        // Pieces without a line feed.
+        no_feed(&next),
+        no_feed(&two),
+        no_feed(&nine),
+        no_feed(&other_route(&next)),
+        no_feed(&other_route(&two)),
+        [no_feed(&two), next.clone()].concat(),
+        [no_feed(&two), no_feed(&three)].concat(),
+        [no_feed(&two), no_feed(&next)].concat(),
+        [no_feed(&two), other_route(&next)].concat(),
+        [no_feed(&other_route(&two)), next.clone()].concat(),
+        [&two[..], &no_feed(&three), &no_feed(&next)].concat(),
+        [no_feed(&two), next[..132].to_vec()].concat(),
+        vec![b' '; LINE],
+        vec![b'\n'; LINE],
+    ];
+    // Column 39 with the number of neither kind is that of a primary, and so are 0 and 1.
+    behind.extend(["x", ":", " ", "@", "[", "/"].map(|number| leg(20, &[(39, number)])));
+    // Whatever is wrong with a record of the route behind, the leg is not the last.
+    behind.extend(faults().iter().map(|(_, changes)| changed(&next, changes)));
+    for length in [1, 24, 25, 26, 38, 39, 49, 131, 132] {
+        behind.push(next[..length].to_vec());
+        behind.push([&two[..], &next[..length]].concat());
+        behind.push([&two[..], &three[..length]].concat());
+    }
+    // The first column in which the next record differs.
+    let others =
+        [(1, "T"), (2, "V"), (4, "B"), (7, "L"), (10, "B"), (11, "L"), (12, "2"), (14, "J"), (19, "Z")];
+    behind.extend(others.map(|change| changed(&next, &[change])));
+    behind.extend(
+        [(21, "F"), (25, "B"), (26, "A"), (27, "9"), (30, "X")].map(|change| changed(&next, &[change])),
+    );
+    for terminator in ["CI", "CF"] {
+        let last = leg(10, &[(39, "1"), (48, terminator)]);
+        files.extend(behind.iter().map(|behind| [&last[..], behind].concat()));
+        // The same behind a leg that wants no continuation, for the first of them.
+        let last = leg(10, &[(48, terminator)]);
+        files.extend(behind[..12].iter().map(|behind| [&last[..], behind].concat()));
+    }
+}
+
+/// A last leg that may not end its route beside another fault: at its own record,
+/// at the next one and at the one before.
+fn last_legs_and_faults(files: &mut Vec<Vec<u8>>) {
+    let of =
+        |transition: &'static str, terminator: &'static str| leg(20, &[(21, transition), (48, terminator)]);
+    for (_, changes) in faults() {
+        let bad_last = changed(&of("BBB  ", "CI"), &changes);
+        files.push(bad_last.clone());
+        files.push([leg(10, &[(21, "BBB  ")]), bad_last].concat());
+        for terminator in ["CI", "CF"] {
+            let last = of("BBB  ", terminator);
+            files.push([last.clone(), changed(&of("CCC  ", "CF"), &changes)].concat());
+            files.push([changed(&of("AAA  ", "CF"), &changes), last].concat());
+        }
+    }
+    // Lower routes behind it, and a leg that may neither follow nor end.
+    files.push([of("BBB  ", "CI"), of("AAA  ", "CF")].concat());
+    files.push([of("BBB  ", "CF"), of("AAA  ", "CI")].concat());
+    for terminators in [["CA", "FC"], ["CF", "FC"], ["CA", "HF"], ["CF", "HF"], ["CI", "IF"], ["TF", "CI"]] {
+        files.push(route("FZ", &terminators));
+        files.push([route("FZ", &terminators), of("ZZZ  ", "CF")].concat());
+    }
+    // A leg alone that may neither begin nor end, one that may not begin, one that may not end.
+    for (kind, name) in [("FI", "CD"), ("FI", "CF"), ("FI", "IF"), ("D3", "IF"), ("E1", "IF"), ("FZ", "TF")] {
+        files.push(route(kind, &[name]));
+        files.push([route(kind, &[name]), of("ZZZ  ", "TF")].concat());
     }
 }
 

@@ -37,6 +37,7 @@ pub fn groups() -> Vec<(&'static str, Vec<Case>)> {
         ("refused lines", refused_lines()),
         ("lines that do not apply", not_applying()),
         ("refused routes", refused_routes()),
+        ("beginnings and endings", beginnings_and_endings()),
         ("limits of the log", limits()),
         ("lent buffers", rooms()),
         ("several faults", several_faults()),
@@ -75,7 +76,8 @@ fn leg_of(route: &str, sequence: usize, version: usize, terminator: &str) -> Rec
     without_line_feed(files::leg(sequence, &changes))
 }
 
-/// A leg that may be first, and may follow and be followed by any of its kind.
+/// A leg that may begin a route, follow and be followed by any of its kind, and
+/// end the route.
 pub(crate) fn leg(route: &str, sequence: usize, version: usize) -> Record {
     leg_of(route, sequence, version, "CF")
 }
@@ -242,14 +244,15 @@ fn routes_and_places() -> Vec<Case> {
         (12, "2"),
         (14, "J"),
         (19, "Y"),
-        (20, "J"),
+        (20, "4"),
         (21, "Q"),
         (25, "Q"),
     ];
     for change in differing {
-        let one = leg("PPPP", 10, 0);
-        let other = changed(&one, &[change]);
-        let (newer, other_newer) = (leg("PPPP", 10, 1), changed(&leg("PPPP", 10, 1), &[change]));
+        // A departure of type 1, as there is one of type 4 too that is such a leg alone.
+        let departure = |version| changed(&leg("PPPP", 10, version), &[(13, "D"), (20, "1")]);
+        let (one, newer) = (departure(0), departure(1));
+        let (other, other_newer) = (changed(&one, &[change]), changed(&newer, &[change]));
         let (front, back) = if one < other { (&one, &other) } else { (&other, &one) };
         let frozen = file(&[front.clone(), back.clone()]);
         let log = log(&[replaced(&one, &newer), replaced(&other, &other_newer)]);
@@ -293,8 +296,8 @@ fn cancelled() -> Vec<Case> {
 
 /// Routes that are taken out whole and put in again.
 fn made_anew() -> Vec<Case> {
-    let old = [leg_of("P", 10, 0, "IF"), leg_of("P", 20, 0, "TF"), leg_of("P", 30, 0, "TF")];
-    let new = [leg_of("P", 10, 1, "IF"), leg_of("P", 20, 1, "DF"), leg_of("P", 40, 1, "TF")];
+    let old = [leg_of("P", 10, 0, "CF"), leg_of("P", 20, 0, "TF"), leg_of("P", 30, 0, "TF")];
+    let new = [leg_of("P", 10, 1, "CF"), leg_of("P", 20, 1, "DF"), leg_of("P", 40, 1, "TF")];
     let frozen = file(&[vec![leg("O", 10, 0)], old.to_vec(), vec![leg("Q", 10, 0)]].concat());
     let outs = |records: &[Record]| records.iter().map(out).collect::<Correction>();
     let puts = |records: &[Record]| records.iter().map(put).collect::<Correction>();
@@ -388,10 +391,10 @@ fn one_route() -> Vec<Case> {
 /// A changed leg is wanted, and the older correction that put in the leg before
 /// it is not: without that one the pair would not stand.
 fn older_leg() -> Vec<Case> {
-    let frozen = file(&[leg_of("P", 10, 0, "CA"), leg_of("P", 30, 0, "CI"), leg_of("Q", 10, 0, "CA")]);
-    let changed_leg = replaced(&leg_of("P", 30, 0, "CI"), &leg_of("P", 30, 1, "TF"));
+    let frozen = file(&[leg_of("P", 10, 0, "CA"), leg_of("P", 30, 0, "VA"), leg_of("Q", 10, 0, "CA")]);
+    let changed_leg = replaced(&leg_of("P", 30, 0, "VA"), &leg_of("P", 30, 1, "TF"));
     let older = vec![put(&leg_of("P", 20, 0, "CF"))];
-    let elsewhere = replaced(&leg_of("Q", 10, 0, "CA"), &leg_of("Q", 10, 1, "CI"));
+    let elsewhere = replaced(&leg_of("Q", 10, 0, "CA"), &leg_of("Q", 10, 1, "VA"));
     let set = vec![older.clone(), elsewhere.clone(), changed_leg.clone(), vec![]];
     let mut cases = each(&frozen, &log(&set), &[&[3], &[2], &[1], &[], &[4], &[3, 2]]);
     cases.extend(each(&frozen, &log(&[changed_leg, older, elsewhere]), &[&[1], &[2]]));
@@ -440,6 +443,9 @@ fn refused_files() -> Vec<Case> {
     frozen.push(file(&[opening("P", 10, 0)]));
     frozen.push(file(&[leg("Q", 10, 0), leg("P", 10, 0)]));
     frozen.push(file(&[leg_of("P", 10, 0, "TF")]));
+    frozen.push(file(&[leg_of("P", 10, 0, "CI")]));
+    frozen.push(file(&[leg_of("P", 10, 0, "CA"), leg_of("P", 20, 0, "TF")]));
+    frozen.push(file(&[leg_of("P", 10, 0, "CF"), leg_of("P", 20, 0, "FA"), leg("Q", 10, 0)]));
     frozen.push(file(&[leg("P", 10, 0), leg("P", 10, 0)]));
     frozen.iter().map(|frozen| case(frozen, &log, &[5])).collect()
 }
@@ -503,9 +509,10 @@ fn not_applying() -> Vec<Case> {
 /// Routes that are refused after a correction, by each number that a route
 /// alone can be refused by.
 fn refused_routes() -> Vec<Case> {
+    let (first, last) = (leg_of("P", 10, 0, "CF"), leg_of("P", 20, 0, "TF"));
     let frozen = file(&[
-        leg_of("P", 10, 0, "IF"),
-        leg_of("P", 20, 0, "TF"),
+        first.clone(),
+        last.clone(),
         opening("Q", 10, 0),
         continuation("Q", 10, '2', 0),
         leg("Q", 20, 0),
@@ -527,16 +534,19 @@ fn refused_routes() -> Vec<Case> {
         (6, vec![put(&changed(&continuation("Q", 10, '3', 0), &[(38, "B")]))]),
         (7, vec![put(&changed(&leg("Q", 20, 0), &[(39, "1")]))]),
         (7, vec![put(&changed(&leg("P", 20, 0), &[(39, "1")])), put(&continuation("P", 20, '2', 0))]),
-        (8, vec![out(&leg_of("P", 10, 0, "IF"))]),
+        (8, vec![out(&first)]),
         (8, vec![put(&leg_of("P", 15, 0, "CA"))]),
         (8, vec![put(&leg_of("P", 30, 0, "IF"))]),
         (8, vec![put(&leg_of("N", 10, 0, "TF"))]),
-        (8, vec![put(&leg_of("N", 10, 0, "RF"))]),
+        (
+            8,
+            [leg_of("N", 10, 0, "RF"), leg("N", 20, 0)].map(|leg| put(&changed(&leg, &[(20, "I")]))).to_vec(),
+        ),
         // Several routes: the first in byte order, whatever the order of the lines.
         (8, vec![put(&leg("Z", 10, 0)), put(&new(&[(71, "    ")])), put(&leg_of("N", 10, 0, "TF"))]),
         (5, vec![put(&leg_of("R", 10, 0, "TF")), put(&new(&[(71, "    ")]))]),
         (5, vec![put(&new(&[(71, "    ")])), put(&leg_of("R", 10, 0, "TF"))]),
-        (8, vec![put(&changed(&leg("Z", 10, 0), &[(63, "3601")])), out(&leg_of("P", 10, 0, "IF"))]),
+        (8, vec![put(&changed(&leg("Z", 10, 0), &[(63, "3601")])), out(&first)]),
         // Two faults in one route: by record, and in a record by number.
         (8, vec![put(&leg_of("P", 15, 0, "CA")), put(&new(&[(63, "3601")]))]),
         (4, vec![put(&new(&[(35, "  "), (48, "IF")]))]),
@@ -544,8 +554,7 @@ fn refused_routes() -> Vec<Case> {
     let mut cases = Vec::new();
     for (at, (number, correction)) in by_number.into_iter().enumerate() {
         let alone = log(std::slice::from_ref(&correction));
-        let expected = Refusal { number: 11, place: 1, column: number };
-        assert_eq!(check_log(&frozen, &alone), Err(expected), "a route refused by {number} is wanted here");
+        refused_by(&frozen, &alone, 1, number);
         cases.push(case(&frozen, &alone, &[1]));
         if at % 3 == 0 {
             let after_others = [vec![], renewed("Q", 20, 0, 0), correction, vec![]];
@@ -553,10 +562,102 @@ fn refused_routes() -> Vec<Case> {
         }
     }
     // What is wrong within a correction and right at its end, and what only the next one mends.
-    let mended = vec![out(&leg_of("P", 10, 0, "IF")), out(&leg_of("P", 20, 0, "TF"))];
+    let mended = vec![out(&first), out(&last)];
     cases.extend(each(&frozen, &log(std::slice::from_ref(&mended)), &[&[1]]));
     let one_by_one: Vec<Correction> = mended.iter().map(|line| vec![line.clone()]).collect();
     cases.extend(each(&frozen, &log(&one_by_one), &[&[2]]));
+    cases
+}
+
+/// Says by which number a route is refused, and after which correction.
+fn refused_by(frozen: &[u8], log: &[u8], correction: usize, number: usize) {
+    let expected = Refusal { number: 11, place: correction, column: number };
+    assert_eq!(check_log(frozen, log), Err(expected), "a route refused by {number} is wanted here");
+}
+
+/// Corrections that leave a route whose first leg may not begin it or whose last
+/// may not end it, those that do so for a while, and those that do not.
+fn beginnings_and_endings() -> Vec<Case> {
+    let approach = |sequence, terminator| changed(&leg_of("P", sequence, 0, terminator), &[(20, "I")]);
+    let legs = [approach(10, "IF"), approach(20, "CF"), approach(30, "CI"), approach(40, "CF")];
+    let notes = |number| continuation("Q", 20, number, 0);
+    let noted = |terminator| changed(&leg_of("Q", 20, 0, terminator), &[(39, "1")]);
+    let route_q = [leg("Q", 10, 0), noted("CF"), notes('2'), notes('3')];
+    let frozen = file(&[&legs[..], &route_q].concat());
+    let other = |at: usize, terminator| replaced(&legs[at], &changed(&legs[at], &[(48, terminator)]));
+    let refused: Vec<(usize, Vec<Correction>)> = vec![
+        // The last leg taken out, made another one, or followed by another one.
+        (1, vec![vec![out(&legs[3])]]),
+        (1, vec![other(3, "VI")]),
+        (1, vec![vec![put(&approach(50, "CI"))]]),
+        (1, vec![vec![put(&approach(50, "HA"))]]),
+        (2, vec![vec![put(&approach(50, "HM"))], vec![put(&approach(60, "HF"))]]),
+        // The same with continuations behind it, as many as there are.
+        (1, vec![replaced(&noted("CF"), &noted("CI"))]),
+        (1, vec![replaced(&noted("CF"), &noted("HA")), vec![put(&notes('4'))]]),
+        (2, vec![vec![out(&notes('3'))], replaced(&noted("CF"), &noted("VI"))]),
+        (1, vec![[replaced(&noted("CF"), &noted("CI")), vec![out(&notes('2'))]].concat()]),
+        (1, vec![[replaced(&noted("CF"), &noted("CI")), vec![out(&notes('2')), out(&notes('3'))]].concat()]),
+        // The first leg taken out or made another one, and one put in front of it.
+        (1, vec![vec![out(&legs[0])]]),
+        (1, vec![other(0, "CF")]),
+        (1, vec![vec![put(&approach(5, "FC"))]]),
+        // Mended too late, by taking out more or by putting it in again.
+        (1, vec![vec![out(&legs[3])], vec![out(&legs[2])]]),
+        (1, vec![vec![out(&legs[3])], vec![put(&legs[3])]]),
+        (
+            2,
+            vec![
+                renewed("Q", 10, 0, 1),
+                other(3, "CI"),
+                replaced(&changed(&legs[3], &[(48, "CI")]), &legs[3]),
+            ],
+        ),
+        // A leg of its own route, between that and the next one in the file.
+        (1, vec![vec![put(&approach(50, "VI")), put(&leg("P", 10, 0))]]),
+        // A leg alone in its route.
+        (1, vec![vec![put(&leg_of("R", 10, 0, "CI"))]]),
+        (1, vec![vec![put(&changed(&leg_of("R", 10, 0, "IF"), &[(20, "I")]))]]),
+        (1, vec![vec![out(&legs[1]), out(&legs[2]), out(&legs[3])]]),
+    ];
+    let mut cases = Vec::new();
+    for (correction, corrections) in refused {
+        let log = log(&corrections);
+        refused_by(&frozen, &log, correction, 8);
+        cases.push(case(&frozen, &log, &[1]));
+    }
+    // Where the ending is not reached: a fault of another number, or in a route or correction before.
+    let bad = |changes: &[Change]| put(&changed(&approach(50, "CI"), changes));
+    for (number, lines) in [
+        (3, vec![bad(&[(63, "3601")])]),
+        (4, vec![bad(&[(35, "  ")])]),
+        (5, vec![bad(&[(71, "    ")])]),
+        (6, vec![bad(&[(39, "2"), (40, " ")])]),
+        (7, vec![bad(&[(27, "040"), (39, "1")])]),
+        (5, vec![put(&changed(&approach(25, "CF"), &[(71, "    ")])), bad(&[])]),
+        (8, vec![bad(&[]), put(&changed(&leg("R", 10, 0), &[(63, "3601")]))]),
+        (3, vec![put(&changed(&leg("P", 10, 0), &[(63, "3601"), (20, "A")])), bad(&[])]),
+    ] {
+        let log = log(&[lines]);
+        refused_by(&frozen, &log, 1, number);
+        cases.push(case(&frozen, &log, &[1]));
+    }
+    let accepted: Vec<Vec<Correction>> = vec![
+        // Within one correction a route may end as it likes.
+        vec![vec![out(&legs[3]), out(&legs[2])], vec![put(&legs[2]), put(&legs[3])]],
+        vec![[vec![out(&legs[0])], vec![put(&legs[0])]].concat(), other(3, "DF")],
+        vec![vec![put(&approach(60, "CF")), put(&approach(50, "CI"))], other(3, "CI")],
+        // Missed approaches in the approach's own route, and one more fix behind the first.
+        vec![vec![put(&approach(50, "CA"))], vec![put(&approach(60, "DF"))], vec![put(&approach(70, "HM"))]],
+        vec![vec![put(&approach(15, "IF"))], vec![out(&legs[0])]],
+        vec![replaced(&noted("CF"), &noted("HM")), vec![out(&notes('3'))], vec![put(&leg("Q", 30, 0))]],
+        vec![legs.iter().map(out).collect(), legs.iter().rev().map(put).collect()],
+    ];
+    for corrections in accepted {
+        let log = log(&corrections);
+        assert_eq!(check_log(&frozen, &log), Ok(()), "an accepted log is wanted here");
+        cases.extend(each(&frozen, &log, &[&[1], &[corrections.len() as u32]]));
+    }
     cases
 }
 

@@ -5,6 +5,7 @@ use std::collections::HashSet;
 use reference::file::check;
 use reference::{cases, files, Refusal};
 
+/// A leg of an approach.
 fn leg(sequence: &str, terminator: &str) -> Vec<u8> {
     let mut bytes = cases::LEG.as_bytes().to_vec();
     bytes[26..29].copy_from_slice(sequence.as_bytes());
@@ -30,11 +31,18 @@ fn the_set_meets_every_refusal_and_acceptance() {
     assert_eq!(numbers, (0..=8).collect());
 }
 
+/// The same leg in a departure of type 1.
+fn departing(mut leg: Vec<u8>) -> Vec<u8> {
+    (leg[12], leg[19]) = (b'D', b'1');
+    leg
+}
+
 #[test]
 fn legs_in_sequence() {
     assert_eq!(check(b""), Ok(()));
     assert_eq!(check(&[leg("010", "IF"), leg("020", "TF")].concat()), Ok(()));
-    refused(&[leg("010", "CA"), leg("020", "TF")].concat(), 8, 2, 48);
+    refused(&[leg("010", "CA"), leg("020", "TF")].map(departing).concat(), 8, 2, 48);
+    refused(&[leg("010", "TF"), leg("020", "TF")].concat(), 8, 1, 48);
     refused(&leg("010", "TF"), 8, 1, 48);
 }
 

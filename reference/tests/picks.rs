@@ -13,9 +13,9 @@ fn refusal<T>(number: u8, place: usize, column: usize) -> Result<T, Refusal> {
     Err(Refusal { number, place, column })
 }
 
-/// A leg of the route with this one-letter transition, with its line feed.
+/// A leg of the missed approach with this one-letter transition, with its line feed.
 fn leg(route: char, version: usize) -> String {
-    format!("{}{route}    {}{version:05}2013\n", &cases::LEG[..20], &cases::LEG[25..123])
+    format!("{}Z{route}    {}{version:05}2013\n", &cases::LEG[..19], &cases::LEG[25..123])
 }
 
 /// Replaces the leg of each route, which stands in this version, by the next.
