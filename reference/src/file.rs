@@ -110,12 +110,12 @@ fn text(rec: &[u8], field: (usize, usize)) -> &str {
     std::str::from_utf8(columns(rec, field)).expect("a code is text")
 }
 
-fn terminator(rec: &[u8]) -> &str {
+pub(crate) fn terminator(rec: &[u8]) -> &str {
     text(rec, (48, 49))
 }
 
 /// The row of a leg's route in the table of first and last legs.
-fn kind(rec: &[u8]) -> usize {
+pub(crate) fn kind(rec: &[u8]) -> usize {
     kind_of(text(rec, (13, 13)), text(rec, (20, 20))).expect("each route type has its row")
 }
 

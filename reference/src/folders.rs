@@ -329,7 +329,7 @@ fn listed(wanted: &[u32]) -> Vec<u8> {
     wanted.iter().flat_map(|number| format!("{number}\n").into_bytes()).collect()
 }
 
-/// The first of the stored picks with each refusal, of 7 and 11 with each
+/// The first of the stored picks with each refusal, of 7, 8 and 11 with each
 /// column, that a program can meet: no program lends a buffer that is too short.
 fn refused() -> Vec<Folder> {
     let mut met = HashSet::new();
@@ -338,7 +338,7 @@ fn refused() -> Vec<Folder> {
         let as_text = wanted.len() <= 200 && wanted.iter().all(|number| *number <= 999);
         let Err(refusal) = new_file(&frozen, &log, &wanted, ROOM) else { continue };
         let kind = match refusal.number {
-            7 | 11 => (refusal.number, refusal.column),
+            7 | 8 | 11 => (refusal.number, refusal.column),
             number => (number, 0),
         };
         // A log that is too long and a limit of records or corrections have folders of their own.

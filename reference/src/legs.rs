@@ -5,32 +5,32 @@
 /// leg that stands, a column the leg behind it. `*` is printed there, `&` is the
 /// footnote's that names the cell, and of a `.` the copy tells nothing: it has no
 /// shading.
-const PAIRS: &str = "
-   AF CA CD CF CI CR DF FA FC FD FM HA HF HM IF PI RF TF VA VD VI VM VR
-AF  .  .  .  .  .  .  .  .  .  .  .  .  .  .  .  .  .  .  .  .  .  .  .
-CA  .  .  .  .  .  .  .  .  .  .  .  .  .  .  .  .  .  .  .  .  .  .  .
-CD  .  .  .  .  .  .  .  .  .  .  .  .  .  .  .  .  .  .  .  .  .  .  .
-CF  .  .  .  .  .  .  &  .  .  .  .  .  .  .  .  .  .  .  .  .  .  .  .
-CI  .  .  .  .  .  .  .  .  .  .  .  .  .  .  .  .  .  .  .  .  .  .  .
-CR  .  .  .  .  .  .  .  .  .  .  .  .  .  .  .  .  .  .  .  .  .  .  .
-DF  .  .  .  .  .  .  &  .  .  .  .  .  .  .  .  .  .  .  .  .  .  .  .
-FA  .  .  .  .  .  .  .  .  .  .  .  .  .  .  .  .  .  .  .  .  .  .  .
-FC  .  .  .  .  .  .  &  .  .  .  .  .  .  .  .  .  .  .  .  .  .  .  .
-FD  .  .  .  .  .  .  .  .  .  .  .  .  .  .  .  .  .  .  .  .  .  .  .
-FM  .  .  .  .  .  .  .  .  .  .  .  .  .  .  .  .  .  .  .  .  .  .  .
-HA  .  .  .  .  .  .  .  .  .  .  .  .  .  .  .  .  .  .  .  .  .  .  .
-HF  .  .  .  .  .  .  .  .  .  .  .  .  .  .  .  .  .  .  .  .  .  .  .
-HM  .  .  .  .  .  .  .  .  .  .  .  .  .  .  .  .  .  .  .  .  .  .  .
-IF  .  .  .  .  .  .  .  *  *  *  *  *  *  *  *  *  *  .  .  .  .  .  .
-PI  .  .  .  .  .  .  .  .  .  .  .  .  .  .  .  .  .  .  .  .  .  .  .
-RF  .  .  .  .  .  .  .  .  .  .  .  .  .  .  .  .  .  .  .  .  .  .  .
-TF  .  .  .  .  .  .  .  .  .  .  .  .  .  .  .  .  .  .  .  .  .  .  .
-VA  .  .  .  .  .  .  .  .  .  .  .  .  .  .  .  .  .  .  .  .  .  .  .
-VD  .  .  .  .  .  .  .  .  .  .  .  .  .  .  .  .  .  .  .  .  .  .  .
-VI  .  .  .  .  .  .  .  .  .  .  .  .  .  .  .  .  .  .  .  .  .  .  .
-VM  .  .  .  .  .  .  .  .  .  .  .  .  .  .  .  .  .  .  .  .  .  .  .
-VR  .  .  .  .  .  .  .  .  .  .  .  .  .  .  .  .  .  .  .  .  .  .  .
-";
+const PAIRS: [&str; 24] = [
+    "   AF CA CD CF CI CR DF FA FC FD FM HA HF HM IF PI RF TF VA VD VI VM VR",
+    "AF  .  .  .  .  .  .  .  .  .  .  .  .  .  .  .  .  .  .  .  .  .  .  .",
+    "CA  .  .  .  .  .  .  .  .  .  .  .  .  .  .  .  .  .  .  .  .  .  .  .",
+    "CD  .  .  .  .  .  .  .  .  .  .  .  .  .  .  .  .  .  .  .  .  .  .  .",
+    "CF  .  .  .  .  .  .  &  .  .  .  .  .  .  .  .  .  .  .  .  .  .  .  .",
+    "CI  .  .  .  .  .  .  .  .  .  .  .  .  .  .  .  .  .  .  .  .  .  .  .",
+    "CR  .  .  .  .  .  .  .  .  .  .  .  .  .  .  .  .  .  .  .  .  .  .  .",
+    "DF  .  .  .  .  .  .  &  .  .  .  .  .  .  .  .  .  .  .  .  .  .  .  .",
+    "FA  .  .  .  .  .  .  .  .  .  .  .  .  .  .  .  .  .  .  .  .  .  .  .",
+    "FC  .  .  .  .  .  .  &  .  .  .  .  .  .  .  .  .  .  .  .  .  .  .  .",
+    "FD  .  .  .  .  .  .  .  .  .  .  .  .  .  .  .  .  .  .  .  .  .  .  .",
+    "FM  .  .  .  .  .  .  .  .  .  .  .  .  .  .  .  .  .  .  .  .  .  .  .",
+    "HA  .  .  .  .  .  .  .  .  .  .  .  .  .  .  .  .  .  .  .  .  .  .  .",
+    "HF  .  .  .  .  .  .  .  .  .  .  .  .  .  .  .  .  .  .  .  .  .  .  .",
+    "HM  .  .  .  .  .  .  .  .  .  .  .  .  .  .  .  .  .  .  .  .  .  .  .",
+    "IF  .  .  .  .  .  .  .  *  *  *  *  *  *  *  *  *  *  .  .  .  .  .  .",
+    "PI  .  .  .  .  .  .  .  .  .  .  .  .  .  .  .  .  .  .  .  .  .  .  .",
+    "RF  .  .  .  .  .  .  .  .  .  .  .  .  .  .  .  .  .  .  .  .  .  .  .",
+    "TF  .  .  .  .  .  .  .  .  .  .  .  .  .  .  .  .  .  .  .  .  .  .  .",
+    "VA  .  .  .  .  .  .  .  .  .  .  .  .  .  .  .  .  .  .  .  .  .  .  .",
+    "VD  .  .  .  .  .  .  .  .  .  .  .  .  .  .  .  .  .  .  .  .  .  .  .",
+    "VI  .  .  .  .  .  .  .  .  .  .  .  .  .  .  .  .  .  .  .  .  .  .  .",
+    "VM  .  .  .  .  .  .  .  .  .  .  .  .  .  .  .  .  .  .  .  .  .  .  .",
+    "VR  .  .  .  .  .  .  .  .  .  .  .  .  .  .  .  .  .  .  .  .  .  .  .",
+];
 
 /// A row of attachment 5, 1.2: the subsection in column 13 and the route types in
 /// column 20, and the legs that may begin and end such a route. The small figures
@@ -110,20 +110,21 @@ const MISSED_APPROACH: usize = 8;
 
 /// The terminators in the order of the standard.
 pub fn terminators() -> impl Iterator<Item = &'static str> {
-    PAIRS.lines().nth(1).into_iter().flat_map(str::split_whitespace)
+    PAIRS[0].split_whitespace()
 }
 
 /// Whether a leg may stand behind another: a marked cell permits, and what can't
 /// be read is as it was without the table.
 pub fn may_follow(before: &str, leg: &str) -> bool {
-    mark(before, leg).is_some_and(|mark| mark != ".") || may_follow_without_table(before, leg)
+    mark(before, leg).is_some_and(|mark| mark != '.') || may_follow_without_table(before, leg)
 }
 
-/// What stands in the cell of two terminators.
-fn mark(before: &str, leg: &str) -> Option<&'static str> {
-    let row = PAIRS.lines().skip(2).find(|row| row.split_whitespace().next() == Some(before))?;
-    let (_, mark) = terminators().zip(row.split_whitespace().skip(1)).find(|(name, _)| *name == leg)?;
-    Some(mark)
+/// What stands in the cell of two terminators: in the row that begins with the
+/// one, below the other in the first row.
+fn mark(before: &str, leg: &str) -> Option<char> {
+    let row = PAIRS[1..].iter().find(|row| row.starts_with(before))?;
+    let column = PAIRS[0].find(leg)?;
+    row[column..].chars().nth(1)
 }
 
 /// Legs that want a fix before them, and legs that end at a fix.

@@ -17,6 +17,7 @@
 //! - `logs`: the stored set of both, and what this program answers to it
 //! - `pick`: a log judged over its frozen file, and picking (10, 11, 12, 14)
 //! - `picks`: the stored set of picks
+//! - `random_picks`: random ones, of routes of every kind
 //! - `pick_vectors`: how it is stored, and what this program answers to it
 //! - `times`: the inputs whose times are measured, in the same form
 //! - `answers`: what the three programs print
@@ -41,6 +42,7 @@ pub mod pick;
 pub mod pick_vectors;
 pub mod picks;
 pub mod random_folders;
+pub mod random_picks;
 pub mod record;
 pub mod report;
 pub mod times;

@@ -1,13 +1,12 @@
 //! The stored set of picks: a frozen file, a log, wanted numbers and a lent
 //! buffer each.
 
-use std::collections::BTreeMap;
-
 use crate::cases::Dice;
-use crate::file::{check, LINE};
+use crate::file::LINE;
 use crate::files;
 use crate::files::{changed, Change};
-use crate::pick::{check_log, place, ROOM};
+use crate::pick::{check_log, ROOM};
+use crate::random_picks::random_case;
 use crate::Refusal;
 
 #[derive(Clone, Debug, PartialEq, Eq)]
@@ -63,7 +62,7 @@ pub(crate) enum Line {
 
 pub(crate) type Correction = Vec<Line>;
 
-fn without_line_feed(mut line: Vec<u8>) -> Record {
+pub(crate) fn without_line_feed(mut line: Vec<u8>) -> Record {
     line.truncate(LINE - 1);
     line
 }
@@ -96,7 +95,7 @@ pub(crate) fn file(records: &[Record]) -> Vec<u8> {
     records.iter().flat_map(|record| [record.as_slice(), b"\n"].concat()).collect()
 }
 
-fn out(record: &Record) -> Line {
+pub(crate) fn out(record: &Record) -> Line {
     Line::Out(record.clone())
 }
 
@@ -104,7 +103,7 @@ pub(crate) fn put(record: &Record) -> Line {
     Line::In(record.clone())
 }
 
-fn replaced(old: &Record, new: &Record) -> Vec<Line> {
+pub(crate) fn replaced(old: &Record, new: &Record) -> Vec<Line> {
     vec![out(old), put(new)]
 }
 
@@ -131,7 +130,7 @@ pub(crate) fn log(corrections: &[Correction]) -> Vec<u8> {
     (1..).zip(corrections).flat_map(written).collect()
 }
 
-fn case(frozen: &[u8], log: &[u8], wanted: &[u32]) -> Case {
+pub(crate) fn case(frozen: &[u8], log: &[u8], wanted: &[u32]) -> Case {
     Case { frozen: frozen.to_vec(), log: log.to_vec(), wanted: wanted.to_vec(), room: ROOM }
 }
 
@@ -845,157 +844,8 @@ pub(crate) fn largest() -> Vec<Case> {
 
 // ---- random
 
-/// A place's record, by places.
-type Standing = BTreeMap<Vec<u8>, Record>;
-
-fn route_of<'a>(standing: &'a Standing, record: &[u8]) -> Vec<&'a Record> {
-    standing.values().filter(|other| other[..25] == record[..25]).collect()
-}
-
-/// Whether each of these records' routes is accepted.
-fn stand(standing: &Standing, correction: &Correction) -> bool {
-    correction.iter().all(|(Line::Out(record) | Line::In(record))| {
-        let route: Vec<Record> = route_of(standing, record).into_iter().cloned().collect();
-        check(&file(&route)).is_ok()
-    })
-}
-
-pub(crate) fn chosen<T: Clone>(dice: &mut Dice, choice: &[T]) -> T {
-    choice[dice.below(choice.len())].clone()
-}
-
-/// Records at a free place: a leg, or a leg and its continuations.
-fn fresh(dice: &mut Dice, standing: &Standing) -> Vec<Record> {
-    let route = chosen(dice, &["A", "B", "BA", "C"]);
-    let sequence = chosen(dice, &[10, 20, 30, 40]);
-    let version = dice.below(3);
-    if standing.values().any(|other| place(other)[..28] == place(&leg(route, sequence, 0))[..28]) {
-        return Vec::new();
-    }
-    match dice.below(5) {
-        0 => {
-            let last = chosen(dice, &['2', '3']);
-            let continuations = ('2'..=last).map(|number| continuation(route, sequence, number, version));
-            [vec![opening(route, sequence, version)], continuations.collect()].concat()
-        }
-        _ => vec![leg_of(
-            route,
-            sequence,
-            version,
-            chosen(dice, &["CF", "CF", "CF", "TF", "IF", "CA", "DF", "HM"]),
-        )],
-    }
-}
-
-/// Lines that apply to what stands.
-fn step(dice: &mut Dice, standing: &Standing) -> Vec<Line> {
-    let records: Vec<Record> = standing.values().cloned().collect();
-    let new = fresh(dice, standing);
-    match (dice.below(10), records.is_empty()) {
-        (0..=3, _) | (_, true) => new.iter().map(put).collect(),
-        (4, _) => new.iter().map(put).chain(new.iter().map(out)).collect(),
-        (5, _) => vec![out(&chosen(dice, &records))],
-        (6, _) => {
-            let record = chosen(dice, &records);
-            replaced(&record, &record)
-        }
-        (7, _) => {
-            let record = chosen(dice, &records);
-            route_of(standing, &record).into_iter().map(out).collect()
-        }
-        _ => {
-            let record = chosen(dice, &records);
-            let newer = changed(&record, &[(124, chosen(dice, &["00000", "00001", "00002"]))]);
-            replaced(&record, &newer)
-        }
-    }
-}
-
-fn carry(standing: &mut Standing, line: &Line) {
-    match line {
-        Line::Out(record) => drop(standing.remove(&place(record))),
-        Line::In(record) => drop(standing.insert(place(record), record.clone())),
-    }
-}
-
-/// A correction of up to three steps, and what stands after it.
-fn random_correction(dice: &mut Dice, standing: &Standing) -> (Correction, Standing) {
-    let mut after = standing.clone();
-    let mut correction = Vec::new();
-    for _ in 0..dice.below(4) {
-        for line in step(dice, &after) {
-            carry(&mut after, &line);
-            correction.push(line);
-        }
-    }
-    (correction, after)
-}
-
 /// Small files and logs that mostly apply, every fifth of them damaged.
 fn random() -> Vec<Case> {
     let mut dice = Dice(0x5049_434b_494e_4730);
     (0..120).map(|at| random_case(&mut dice, at % 5 == 4)).collect()
-}
-
-pub(crate) fn random_case(dice: &mut Dice, damaged: bool) -> Case {
-    let mut standing = Standing::new();
-    let mut corrections: Vec<Correction> = Vec::new();
-    let mut frozen = Vec::new();
-    // The first few steps make the frozen file, the others the log.
-    let (opening_steps, all_steps) = (dice.below(6), 8 + dice.below(8));
-    for at in 0..all_steps {
-        if at <= opening_steps {
-            frozen = standing.values().cloned().collect();
-        }
-        let (correction, after) = random_correction(dice, &standing);
-        let log_has_begun = at >= opening_steps;
-        // One that leaves a route refused is dropped, but for a few in the log.
-        if stand(&after, &correction) || log_has_begun && dice.below(40) == 0 {
-            standing = after;
-            if log_has_begun {
-                corrections.push(correction);
-            }
-        }
-    }
-    let mut case = case(&file(&frozen), &log(&corrections), &[]);
-    for _ in 0..dice.below(4) {
-        case.wanted.push(1 + dice.below(corrections.len().max(1)) as u32);
-    }
-    if damaged {
-        damage(dice, &mut case, corrections);
-    }
-    case
-}
-
-/// Damages the log, the frozen file, the wanted numbers or the buffer.
-fn damage(dice: &mut Dice, case: &mut Case, mut corrections: Vec<Correction>) {
-    const LIKELY: &[u8] = b"0123456789ABCDFT \t\n";
-    let lines: Vec<usize> = (0..corrections.len()).filter(|at| !corrections[*at].is_empty()).collect();
-    match dice.below(8) {
-        0 if !case.frozen.is_empty() => {
-            let at = dice.below(case.frozen.len());
-            case.frozen[at] = chosen(dice, LIKELY);
-        }
-        1 if !case.log.is_empty() => {
-            let at = dice.below(case.log.len());
-            case.log[at] = chosen(dice, LIKELY);
-        }
-        2 => case.log.truncate(dice.below(case.log.len() + 1)),
-        3 => {
-            let at = dice.below(case.wanted.len() + 1);
-            case.wanted.insert(at, chosen(dice, &[0, 1 + corrections.len() as u32, 300]));
-        }
-        4 => case.room = dice.below(ROOM),
-        _ if !lines.is_empty() => {
-            let correction = &mut corrections[chosen(dice, &lines)];
-            let at = dice.below(correction.len());
-            match dice.below(3) {
-                0 => drop(correction.remove(at)),
-                1 => correction.insert(at, correction[at].clone()),
-                _ => correction.reverse(),
-            }
-            case.log = log(&corrections);
-        }
-        _ => {}
-    }
 }

@@ -4,8 +4,12 @@
 use crate::answers::Inputs;
 use crate::cases::Dice;
 use crate::file::LINE;
+use crate::files;
+use crate::files::changed;
+use crate::judge::is_continuation;
 use crate::pick::ROOM;
-use crate::picks::{chosen, file, full_file, headings, leg, log, put, random_case, Case};
+use crate::picks::{file, full_file, headings, leg, log, put, Case, Record};
+use crate::random_picks::{chosen, random_case, spoiled};
 
 /// The folder with this number, counted from 1, of those from this seed. Each is
 /// made by itself, so that one can be made again without the others.
@@ -16,8 +20,10 @@ pub fn random(seed: u64, number: u64) -> Inputs {
     }
     let kind = dice.below(10);
     let Case { mut frozen, log, wanted, .. } = random_case(&mut dice, matches!(kind, 0 | 1));
-    if kind == 2 {
-        damage_file(&mut dice, &mut frozen);
+    match kind {
+        2 => damage_file(&mut dice, &mut frozen),
+        4 | 5 => spoil_file(&mut dice, &mut frozen),
+        _ => {}
     }
     let mut want = list(&mut dice, &wanted);
     if kind == 3 {
@@ -115,6 +121,56 @@ fn damage_file(dice: &mut Dice, frozen: &mut Vec<u8>) {
         }
         _ => frozen.truncate(dice.below(frozen.len())),
     }
+}
+
+/// A file in which one route begins, goes on or ends as it may not; or has other
+/// records, or pieces of them, behind its last one; or both. Every other one has
+/// some other damage besides, often near by.
+fn spoil_file(dice: &mut Dice, frozen: &mut Vec<u8>) {
+    let mut records: Vec<Record> = frozen.chunks(LINE).map(|line| line[..LINE - 1].to_vec()).collect();
+    if records.is_empty() {
+        return;
+    }
+    let of_route = chosen(dice, &records)[..25].to_vec();
+    let in_route = |record: &Record| record[..25] == of_route;
+    let from = records.iter().position(in_route).expect("the route of one of the records");
+    let to = from + records[from..].iter().take_while(|record| in_route(record)).count();
+    let way = dice.below(3);
+    if way < 2 {
+        if let Some((at, record)) = spoiled(dice, &records[from..to]) {
+            records[from + at] = record;
+        }
+    }
+    *frozen = file(&records);
+    if way > 0 {
+        let last = records[from..to].iter().rev().find(|record| !is_continuation(record));
+        put_behind(dice, frozen, to, last.expect("a route has a leg"));
+    }
+    if dice.below(2) == 0 {
+        damage_file(dice, frozen);
+    }
+}
+
+/// Puts behind so many records what a route with this last leg does not go on
+/// with, or cuts the file there.
+fn put_behind(dice: &mut Dice, frozen: &mut Vec<u8>, records: usize, last: &Record) {
+    let line = |record: &[u8], feed: &str| [record, feed.as_bytes()].concat();
+    let note = |dice: &mut Dice| {
+        let own = files::continuation(1, chosen(dice, &['2', '3', '4', '9', 'Z']), &[]);
+        [&last[..38], &own[38..LINE - 1]].concat()
+    };
+    let leg = changed(last, &[(27, "999"), (39, chosen(dice, &["0", "1", "x"]))]);
+    let feed = chosen(dice, &["\n", " "]);
+    let lines = match dice.below(7) {
+        0 => line(&note(dice), feed),
+        1 => [line(&note(dice), feed), line(&note(dice), "\n")].concat(),
+        2 => line(&changed(&note(dice), &[(25, "Q")]), feed),
+        3 => line(&leg, feed),
+        4 => [line(&note(dice), feed), line(&leg, feed)].concat(),
+        5 => [line(&changed(&note(dice), &[(25, "Q")]), feed), line(&leg, feed)].concat(),
+        _ => return frozen.truncate(records * LINE + dice.below(LINE)),
+    };
+    frozen.splice(records * LINE..records * LINE, lines);
 }
 
 /// A folder at or past one of the limits of size. These are large, and rare.
