@@ -6,7 +6,7 @@ use crate::file::LINE;
 use crate::files;
 use crate::files::{changed, Change};
 use crate::pick::{check_log, ROOM};
-use crate::random_picks::random_case;
+use crate::random_picks::{few_routes, random_case};
 use crate::Refusal;
 
 #[derive(Clone, Debug, PartialEq, Eq)]
@@ -847,5 +847,9 @@ pub(crate) fn largest() -> Vec<Case> {
 /// Small files and logs that mostly apply, every fifth of them damaged.
 fn random() -> Vec<Case> {
     let mut dice = Dice(0x5049_434b_494e_4730);
-    (0..120).map(|at| random_case(&mut dice, at % 5 == 4)).collect()
+    let mut one = |at: usize| {
+        let routes = few_routes(&mut dice);
+        random_case(&mut dice, &routes, at % 5 == 4)
+    };
+    (0..48).map(&mut one).collect()
 }

@@ -9,7 +9,7 @@ use crate::files::changed;
 use crate::judge::is_continuation;
 use crate::pick::ROOM;
 use crate::picks::{file, full_file, headings, leg, log, put, Case, Record};
-use crate::random_picks::{chosen, random_case, spoiled};
+use crate::random_picks::{any_routes, chosen, random_case, spoiled};
 
 /// The folder with this number, counted from 1, of those from this seed. Each is
 /// made by itself, so that one can be made again without the others.
@@ -19,7 +19,8 @@ pub fn random(seed: u64, number: u64) -> Inputs {
         return at_a_limit(&mut dice);
     }
     let kind = dice.below(10);
-    let Case { mut frozen, log, wanted, .. } = random_case(&mut dice, matches!(kind, 0 | 1));
+    let routes = any_routes(&mut dice);
+    let Case { mut frozen, log, wanted, .. } = random_case(&mut dice, &routes, matches!(kind, 0 | 1));
     match kind {
         2 => damage_file(&mut dice, &mut frozen),
         4 | 5 => spoil_file(&mut dice, &mut frozen),

@@ -20,16 +20,28 @@ pub(crate) fn chosen<T: Clone>(dice: &mut Dice, choice: &[T]) -> T {
 
 /// What all records of a route have in common.
 #[derive(Clone, Copy)]
-struct Route {
+pub(crate) struct Route {
     row: usize,
     route_type: &'static str,
     transition: &'static str,
 }
 
-fn random_route(dice: &mut Dice) -> Route {
-    let row = dice.below(ROUTE_KINDS.len());
-    let types: Vec<&str> = ROUTE_KINDS[row].route_types.split(' ').collect();
-    Route { row, route_type: chosen(dice, &types), transition: chosen(dice, &["A    ", "B    ", "BA   "]) }
+/// Four routes of any kind.
+pub(crate) fn any_routes(dice: &mut Dice) -> Vec<Route> {
+    let any = |_| {
+        let row = dice.below(ROUTE_KINDS.len());
+        let types: Vec<&str> = ROUTE_KINDS[row].route_types.split(' ').collect();
+        let transition = chosen(dice, &["A    ", "B    ", "BA   "]);
+        Route { row, route_type: chosen(dice, &types), transition }
+    };
+    (0..4).map(any).collect()
+}
+
+/// Three routes of any kind, each kind with one route type, so that few records are stored.
+pub(crate) fn few_routes(dice: &mut Dice) -> Vec<Route> {
+    let first_of =
+        |row: usize| Route { row, route_type: &ROUTE_KINDS[row].route_types[..1], transition: "A    " };
+    (0..3).map(|_| first_of(dice.below(ROUTE_KINDS.len()))).collect()
 }
 
 impl Route {
@@ -47,7 +59,7 @@ impl Route {
 
     /// A leg, one in five of them with continuations.
     fn leg(&self, dice: &mut Dice, sequence: usize, terminator: &str) -> Vec<Record> {
-        let version = dice.below(3);
+        let version = dice.below(2);
         let last = if dice.below(5) == 0 { chosen(dice, &['2', '3']) } else { '1' };
         let number = if last == '1' { "0" } else { "1" };
         let leg = files::leg(sequence, &[(39, number), (48, terminator)]);
@@ -228,8 +240,8 @@ fn spoiling(dice: &mut Dice, standing: &Standing) -> Correction {
     spoiled(dice, &route).map_or(Vec::new(), |(at, record)| replaced(&route[at], &record))
 }
 
-pub(crate) fn random_case(dice: &mut Dice, damaged: bool) -> Case {
-    let routes: Vec<Route> = (0..4).map(|_| random_route(dice)).collect();
+/// A pick out of a file of these routes.
+pub(crate) fn random_case(dice: &mut Dice, routes: &[Route], damaged: bool) -> Case {
     let mut standing = Standing::new();
     let mut corrections: Vec<Correction> = Vec::new();
     let mut frozen = Vec::new();
@@ -239,7 +251,7 @@ pub(crate) fn random_case(dice: &mut Dice, damaged: bool) -> Case {
         if at <= opening_steps {
             frozen = standing.values().cloned().collect();
         }
-        let (correction, after) = random_correction(dice, &routes, &standing);
+        let (correction, after) = random_correction(dice, routes, &standing);
         let log_has_begun = at >= opening_steps;
         // One that leaves a route refused is dropped, but for a few in the log.
         if stand(&after, &correction) || log_has_begun && dice.below(40) == 0 {
