@@ -1,9 +1,12 @@
 //! The instructions make the set of files, and the requirement's own cases that speak of files.
 
-use std::collections::HashSet;
+mod ways;
 
-use reference::file::check;
+use std::collections::{BTreeSet, HashSet};
+
+use reference::file::{check, LINE};
 use reference::{cases, files, Refusal};
+use ways::{row, way, WAYS};
 
 /// A leg of an approach.
 fn leg(sequence: &str, terminator: &str) -> Vec<u8> {
@@ -29,6 +32,24 @@ fn the_set_meets_every_refusal_and_acceptance() {
     let numbers: HashSet<u8> =
         files::all().iter().map(|file| check(file).map_or_else(|r| r.number, |()| 0)).collect();
     assert_eq!(numbers, (0..=8).collect());
+}
+
+#[test]
+fn the_set_has_every_kind_of_route_begin_and_end_well_and_badly() {
+    let mut met = BTreeSet::new();
+    for file in files::all() {
+        match check(&file) {
+            Ok(()) => met.extend(file.chunks(LINE).map(|record| ("good", row(record)))),
+            Err(refusal) if refusal.number == 8 => drop(met.insert(way(&file, refusal))),
+            Err(_) => {}
+        }
+    }
+    for row in 0..9 {
+        for what in ["good", WAYS[0], WAYS[2]] {
+            assert!(met.contains(&(what, row)), "{what} in row {row} is not met");
+        }
+    }
+    assert!(met.iter().any(|(what, _)| *what == WAYS[1]));
 }
 
 /// The same leg in a departure of type 1.

@@ -1,35 +1,19 @@
 //! The random folders meet what they are there for: routes of every kind that
 //! stand, and legs that may not begin, follow or end, in files and in logs.
 
+mod ways;
+
 use std::collections::{BTreeMap, BTreeSet};
 
 use reference::answers::Inputs;
 use reference::file::{check, LINE};
-use reference::legs::kind_of;
 use reference::pick::{check_log, new_file, ROOM};
 use reference::random_folders::random;
 use reference::wanted::numbers;
 use reference::Refusal;
+use ways::{row, way, WAYS};
 
 const FOLDERS: u64 = 3_000;
-
-/// The row of a record's kind of route, by its place in the table.
-fn row(record: &[u8]) -> usize {
-    let column = |at: usize| std::str::from_utf8(&record[at..=at]).expect("a code is text");
-    kind_of(column(12), column(19)).expect("a row")
-}
-
-/// In which way a file refused by 8 fails, and in which row.
-fn way(file: &[u8], refusal: Refusal) -> (&'static str, usize) {
-    let record = |place: usize| &file[(place - 1) * LINE..place * LINE];
-    let own = record(refusal.place);
-    let follows = refusal.place > 1 && record(refusal.place - 1)[..25] == own[..25];
-    match refusal.column {
-        48 if follows => ("pair", row(own)),
-        48 => ("beginning", row(own)),
-        _ => ("ending", row(own)),
-    }
-}
 
 /// The first refused route after the correction with this number, in the order
 /// of the routes.
@@ -99,19 +83,17 @@ fn counts(seed: u64, folders: u64) -> BTreeMap<String, usize> {
 #[test]
 fn every_kind_of_route_stands_and_fails_in_every_way() {
     let counts = counts(5, FOLDERS);
-    let shown: String = counts.iter().map(|(what, count)| format!("{what}\t{count}\n")).collect();
-    println!("{shown}");
     let met = |what: &str| assert!(counts.contains_key(what), "{what} is not met");
     assert!(counts["accepted"] > FOLDERS as usize / 3, "{} are accepted", counts["accepted"]);
     met("log: 11 with 8");
     for row in 0..9 {
         met(&format!("accepted with row {row}"));
         met(&format!("accepted with row {row} and continuations"));
-        for way in ["beginning", "pair", "ending"] {
+        for way in WAYS {
             met(&format!("file: {way} in row {row}"));
         }
     }
-    for way in ["beginning", "pair", "ending"] {
+    for way in WAYS {
         met(&format!("log: {way}"));
     }
 }
