@@ -101,7 +101,7 @@ impl<'a> Walk<'a> {
     }
 }
 
-fn route(rec: &[u8]) -> &[u8] {
+pub(crate) fn route(rec: &[u8]) -> &[u8] {
     columns(rec, (1, 25))
 }
 

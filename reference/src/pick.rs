@@ -3,7 +3,7 @@
 
 use std::collections::{BTreeMap, BTreeSet};
 
-use crate::file::{check, LINE};
+use crate::file::{check, route, LINE};
 use crate::layout::columns;
 use crate::{log, Refusal};
 
@@ -55,11 +55,7 @@ pub fn new_file(frozen: &[u8], log: &[u8], wanted: &[u32], room: usize) -> Resul
 type Place = Vec<u8>;
 
 pub(crate) fn place(record: &[u8]) -> Place {
-    [columns(record, (1, 25)), columns(record, (27, 29)), columns(record, (39, 39))].concat()
-}
-
-fn route(record: &[u8]) -> &[u8] {
-    columns(record, (1, 25))
+    [route(record), columns(record, (27, 29)), columns(record, (39, 39))].concat()
 }
 
 /// A record and where it lies: its offset in the frozen file, or in the log.

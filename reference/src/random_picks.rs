@@ -37,7 +37,8 @@ pub(crate) fn any_routes(dice: &mut Dice) -> Vec<Route> {
     (0..4).map(any).collect()
 }
 
-/// Three routes of any kind, each kind with one route type, so that few records are stored.
+/// Three routes of any kind, each kind with one route type, so that few records
+/// are stored.
 pub(crate) fn few_routes(dice: &mut Dice) -> Vec<Route> {
     let first_of =
         |row: usize| Route { row, route_type: &ROUTE_KINDS[row].route_types[..1], transition: "A    " };
@@ -45,8 +46,7 @@ pub(crate) fn few_routes(dice: &mut Dice) -> Vec<Route> {
 }
 
 impl Route {
-    /// The record with this sequence number, as the record of a leg or of its
-    /// continuation has it otherwise.
+    /// A leg or continuation of another route as one of this.
     fn record(&self, record: Vec<u8>, version: usize) -> Record {
         let changes: [Change; 4] = [
             (13, ROUTE_KINDS[self.row].subsection),
@@ -91,9 +91,9 @@ fn stands(row: usize, before: Option<&str>, leg: &str) -> bool {
     before.map_or(may_begin(row, leg), |before| may_follow(before, leg))
 }
 
-/// The records of a route with a leg that may not begin it, one that may not
-/// follow the leg before it, or one that may follow and not end the route: the
-/// place of the record in the route, and what it becomes.
+/// What makes a good route a bad one in one way: a first leg that may not begin
+/// it, a leg that may not follow the one before it, or a last leg that may follow
+/// and not end it. That is a record's place in the route, and what it becomes.
 pub(crate) fn spoiled(dice: &mut Dice, route: &[Record]) -> Option<(usize, Record)> {
     let legs: Vec<usize> = (0..route.len()).filter(|at| !is_continuation(&route[*at])).collect();
     let way = dice.below(3);
