@@ -1,7 +1,7 @@
 -- The rules of first legs, last legs and pairs in words: for legal legs they are what Legal says.
 -- Assumes nothing.
 use mathlib.Core.Path.{_≡_, refl, sym, ap, subst, _∙_}
-use mathlib.Core.Logic.{_↔_, ⊎-elim, Iff·trans, Iff·and}
+use mathlib.Core.Logic.{_↔_, inl, inr, ⊎-elim, Iff·trans}
 use mathlib.Core.Bool.{Bool, true, not, _&&_, _||_, false≢true}
 use mathlib.Core.List.{List, [], _∷_, List·Memᴰ, List·Memᴰ·head, List·Memᴰ·tail, List·Memᴰ·cases-cons, List·Memᴰ·not-nil}
 use Prim.Native.Nat.{ℕ, zero, suc, _≤_, _<_}
@@ -20,7 +20,7 @@ use Rattle.slices.proofs.OrderLaws.{equal-iff}
 use Rattle.slices.proofs.SearchLaws.{first-passes}
 use Rattle.columns.specs.Patterns.{codes, each, texts}
 use Rattle.columns.specs.Rows.{byteIn}
-use Rattle.columns.specs.Words.{columns, Code}
+use Rattle.columns.specs.Words.{columns, RouteType}
 use Rattle.leg.specs.Terminator.{nameOf, among, endsAtFix}
 use Rattle.leg.specs.declared.terminator.Terminator.{Terminator}
 use Rattle.leg.specs.Legal.{LegalLeg}
@@ -28,7 +28,7 @@ use Rattle.leg.proofs.Legality.{named-back}
 use Rattle.routes.specs.LegTable.{named, RouteKind, kind, routeKinds}
 use Rattle.routes.specs.Legal.{LegRecords, FlownAs, OfKind, MayBegin, MayEnd, Marked, OldFollows, Follows}
 use Rattle.routes.specs.Pairs.{terminatorIn, isOne, onlyFirst, followsFix, oldPair, readable, pair, ofKind, kindNumber, kindAt, mayBegin, mayEnd, firstLeg, lastLeg}
-use Rattle.routes.proofs.TableLaws.{marked, marks-named, kind-of}
+use Rattle.routes.proofs.TableLaws.{marked, marks-named, kind-of, departure-kind, arrival-kind, approach-kind}
 
 -- ---- tests in words
 
@@ -195,3 +195,27 @@ module _ (l : LegRecords) (h : LegalLeg (l .primary)) where
   pub last-leg-iff : (lastLeg (l .primary) ≡ true) ↔ MayEnd l
   unfolding lastLeg mayEnd
   last-leg-iff = by-kind (λ k. k .last) l h refl
+
+-- ---- every route is of one kind
+
+-- by its subsection and its route type
+types-kind : (rec f : List ℕ) → f ≡ byteIn 20 rec ∷ [] → RouteType rec f → kindNumber rec < 9
+unfolding kindNumber
+types-kind rec f e (inl (inl (s, t))) = rw s (departure-kind (byteIn 20 rec) (character-iff "0123456FMSTV" (byteIn 20 rec) .1 (rw e at t)))
+types-kind rec f e (inl (inr (s, t))) = rw s (arrival-kind (byteIn 20 rec) (character-iff "123456789FMS" (byteIn 20 rec) .1 (rw e at t)))
+types-kind rec f e (inr (s, t)) = rw s (approach-kind (byteIn 20 rec) (character-iff "ABEFGIJKLMNPRTUVWXYZ" (byteIn 20 rec) .1 (rw e at t)))
+
+one-byte : (rec : List ℕ) → columns 20 20 rec ≡ byteIn 20 rec ∷ []
+unfolding part
+one-byte rec = refl
+
+-- "every route type of 5.7": the route of a legal leg is of one of the nine kinds, and of no other
+pub one-kind : (l : LegRecords) → LegalLeg (l .primary)
+    → (k : RouteKind) × List·Memᴰ k routeKinds × OfKind k l × ((j : RouteKind) → List·Memᴰ j routeKinds → OfKind j l → j ≡ k)
+one-kind l h =
+    let n : kindNumber (l .primary) < 9 = types-kind (l .primary) (columns 20 20 (l .primary)) (one-byte (l .primary)) (h .content .front .routeType) in (
+      kindAt (kindNumber (l .primary)),
+      one-of-nine (l .primary) n,
+      kind-iff (kindAt (kindNumber (l .primary))) l .0 (its-kind (l .primary) n),
+      λ j m o. sym (only-kind l j m o),
+    )

@@ -10,7 +10,7 @@ use Prim.Native.String.{String}
 use native.Mathlib.Omega.{arith}
 use native.Mathlib.Nat.{le-of-suc-le-suc, not-suc-le-zero}
 use native.Mathlib.Decide.{decLt}
-use lib.Dec.{eqb}
+use lib.Dec.{eqb, ltb}
 use lib.ListN.{length, getD, replicate}
 use Rattle.slices.specs.Part.{part, member}
 use Rattle.columns.specs.Rows.{byteIn}
@@ -18,7 +18,7 @@ use Rattle.slices.proofs.PartLaws.{member-append, member-replicate}
 use Rattle.slices.proofs.SearchLaws.{first-within}
 use Rattle.slices.specs.Order.{order, equal}
 use Rattle.slices.specs.Search.{firstAt}
-use borrow.Author.Tests.{eqb-true, eqb-false, ne-eqb}
+use borrow.Author.Tests.{eqb-true, eqb-false, ne-eqb, ltb-true}
 use Rattle.slices.proofs.Cases.{split, and-left, and-right}
 use Rattle.columns.specs.Patterns.{codes, texts}
 use Rattle.columns.specs.Terminators.{terminators}
@@ -239,6 +239,36 @@ unfolding typesOf
 kind-of n h b m =
     eqb-true _ n
     (each-member (λ (x : ℕ). eqb (firstAt (ofKind (code (kindAt n .subsection)) x) routeKinds) n) (codes (kindAt n .types)) (each-below typesOf 9 all-types n h) b m)
+
+-- and every route type of 5.7 is of one of the nine: those of a departure, of an arrival, of an approach
+typed : ℕ → ℕ → Bool
+typed s b = ltb (firstAt (ofKind s b) routeKinds) 9
+
+departures-typed : every (typed (code "D")) (codes "0123456FMSTV") ≡ true
+unfolding every typed ofKind routeKinds firstAt member codes
+departures-typed = refl
+
+arrivals-typed : every (typed (code "E")) (codes "123456789FMS") ≡ true
+unfolding every typed ofKind routeKinds firstAt member codes
+arrivals-typed = refl
+
+approaches-typed : every (typed (code "F")) (codes "ABEFGIJKLMNPRTUVWXYZ") ≡ true
+unfolding every typed ofKind routeKinds firstAt member codes
+approaches-typed = refl
+
+has-kind : (s : ℕ) (types : String) → every (typed s) (codes types) ≡ true → (b : ℕ) → member b (codes types) ≡ true → firstAt (ofKind s b) routeKinds < 9
+unfolding typed
+has-kind s types e b m = ltb-true (firstAt (ofKind s b) routeKinds) 9 (each-member (λ (x : ℕ). ltb (firstAt (ofKind s x) routeKinds) 9) (codes types) e b m)
+
+module _ (b : ℕ) where
+  pub departure-kind : member b (codes "0123456FMSTV") ≡ true → firstAt (ofKind (code "D") b) routeKinds < 9
+  departure-kind = has-kind (code "D") "0123456FMSTV" departures-typed b
+
+  pub arrival-kind : member b (codes "123456789FMS") ≡ true → firstAt (ofKind (code "E") b) routeKinds < 9
+  arrival-kind = has-kind (code "E") "123456789FMS" arrivals-typed b
+
+  pub approach-kind : member b (codes "ABEFGIJKLMNPRTUVWXYZ") ≡ true → firstAt (ofKind (code "F") b) routeKinds < 9
+  approach-kind = has-kind (code "F") "ABEFGIJKLMNPRTUVWXYZ" approaches-typed b
 
 -- the code's lines of the kinds, with blanks behind the types up to eighteen
 unfoldable pub kindsTable : List ℕ

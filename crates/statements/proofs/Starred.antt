@@ -21,10 +21,11 @@ use Rattle.fields.specs.Quantities.{altitudeOf, distanceOf, feetOf}
 use Rattle.fields.specs.Leg.{legOf}
 use Rattle.parts.specs.Record.{sizeColumn, alone, refusedReading, legReading, readingOf}
 use Rattle.routes.specs.InTurn.{inTurn}
-use Rattle.routes.specs.Sources.{leading, records, recordAt, recordWithin, inUse, sourcesOf, sourcesFor, sourcesTo, starts}
-use Rattle.routes.specs.Pairs.{onlyFirst, neverFirst, followsFix, firstLeg, pair}
-use Rattle.routes.specs.Stages.{awaits, continuationColumn, continuationStage, sequenceStage, orderStage, legStands, legStage}
-use Rattle.routes.specs.Walk.{judgedNext, primaryAfter, last, walkFrom, finished, walked}
+use Rattle.routes.specs.Sources.{leading, records, pieces, behindRecords, recordAt, recordWithin, inUse, sourcesOf, sourcesFor, sourcesTo, starts}
+use Rattle.routes.specs.LegTable.{named, page, routeKinds}
+use Rattle.routes.specs.Pairs.{onlyFirst, followsFix, oldPair, mark, readable, pair, ofKind, kindNumber, kindAt, mayBegin, mayEnd, firstLeg, lastLeg}
+use Rattle.routes.specs.Stages.{awaits, continuationColumn, continuationStage, sequenceStage, orderStage, legStands, legStage, endingStage}
+use Rattle.routes.specs.Walk.{followed, endsRoute, judgedNext, primaryAfter, last, walkFrom, finished, walked}
 use Rattle.routes.specs.Files.{sizeStage, tailColumn, tailStage, fileVerdict}
 use Rattle.routes.specs.Places.{placeOf, Every}
 use Rattle.routes.specs.Legal.{lines}
@@ -39,9 +40,9 @@ use Rattle.applying.specs.Correct.{corrected}
 use Rattle.applying.specs.Run.{leadingLines, byCorrection, ran}
 use Rattle.applying.specs.Procedures.{operation, operations}
 use Rattle.selection.specs.Pick.{lengthStage, opened, wantedStage, wants, membersFrom, carried, takenOf, pickOf}
-use Rattle.statements.specs.Starred.{Meets, starred, leg, only, frozen, line, replaced, log}
+use Rattle.statements.specs.Starred.{Meets, starred, leg, departure, only, frozen, line, replaced, log, unended}
 
 -- Every row is met. The definitions that the rows come down to are opened, so that they compute.
 pub cases : Every Meets starred
-unfolding starred full approach _at_is_ codes leg only frozen line replaced log lines readingOf legReading refusedReading alone sizeColumn legOf altitudeOf distanceOf feetOf isHolding value judged judgedLeg stage companionColumn oddOne neededColumn neededOf missing blank member part terminatorOf terminatorAt inOrder terminatorNumber nameOf among endsAtFix needed needs firstAt equal order firstBadField layoutOf kindOf firstOf matches stands fitsAll fits primary fileVerdict sizeStage tailStage tailColumn inTurn leading records walked walkFrom finished last judgedNext primaryAfter continuationStage continuationColumn awaits orderStage sequenceStage legStage legStands firstLeg pair onlyFirst neverFirst followsFix bind pickOf opened lengthStage readLog read lineOf whole reach heading change digitsBy decimal wantedStage carried takenOf wants membersFrom leadingLines byCorrection ran corrected linesApplied lineApplied touched together touchedJudged withSource withoutRecord countBefore notBefore hasPlace isRecord putAt leftOut recordAt recordWithin inUse sourcesOf sourcesFor sourcesTo starts placeOf operation operations closureTo addRelied lastOn numbered add touches? routeOfOp same? ℕ-discrete
-cases = (refl, (refl, (refl, (refl, (refl, (refl, (refl, (refl, (refl, (refl, (refl, (refl, (refl, (refl, (refl, (refl, (refl, (refl, (refl, (refl, (refl, tt)))))))))))))))))))))
+unfolding starred full approach _at_is_ codes leg departure only frozen line replaced log unended lines readingOf legReading refusedReading alone sizeColumn legOf altitudeOf distanceOf feetOf isHolding value judged judgedLeg stage companionColumn oddOne neededColumn neededOf missing blank member part terminatorOf terminatorAt inOrder terminatorNumber nameOf among endsAtFix needed needs firstAt equal order firstBadField layoutOf kindOf firstOf matches stands fitsAll fits primary fileVerdict sizeStage tailStage tailColumn inTurn leading records pieces behindRecords walked walkFrom finished last judgedNext primaryAfter continuationStage continuationColumn awaits orderStage sequenceStage legStage legStands endingStage followed endsRoute firstLeg lastLeg mayBegin mayEnd kindNumber kindAt ofKind routeKinds named pair readable mark page oldPair onlyFirst followsFix bind pickOf opened lengthStage readLog read lineOf whole reach heading change digitsBy decimal wantedStage carried takenOf wants membersFrom leadingLines byCorrection ran corrected linesApplied lineApplied touched together touchedJudged withSource withoutRecord countBefore notBefore hasPlace isRecord putAt leftOut recordAt recordWithin inUse sourcesOf sourcesFor sourcesTo starts placeOf operation operations closureTo addRelied lastOn numbered add touches? routeOfOp same? ℕ-discrete
+cases = (refl, (refl, (refl, (refl, (refl, (refl, (refl, (refl, (refl, (refl, (refl, (refl, (refl, (refl, (refl, (refl, (refl, (refl, (refl, (refl, (refl, (refl, (refl, tt)))))))))))))))))))))))

@@ -105,6 +105,9 @@ unique-refusal-sequence-not-risen κs a x y v w p q = (p ∙ sym q, refl)
 pub unique-refusal-leg-pair : Determined refusals.Refusal.leg_pair.Kinds.ps refusals.Refusal.leg_pair.Kinds.r refusals.Refusal.leg_pair.Reads.Post
 unique-refusal-leg-pair κs a x y v w p q = (p ∙ sym q, refl)
 
+pub unique-refusal-leg-ending : Determined refusals.Refusal.leg_ending.Kinds.ps refusals.Refusal.leg_ending.Kinds.r refusals.Refusal.leg_ending.Reads.Post
+unique-refusal-leg-ending κs a x y v w p q = (p ∙ sym q, refl)
+
 pub unique-refusal-log-line : Determined refusals.Refusal.log_line.Kinds.ps refusals.Refusal.log_line.Kinds.r refusals.Refusal.log_line.Reads.Post
 unique-refusal-log-line κs a x y v w p q = (p ∙ sym q, refl)
 

@@ -26,7 +26,7 @@ use Rattle.leg.specs.declared.stages.Needable.{Needable}
 use Rattle.leg.specs.Judge.{stage, byKind}
 use Rattle.parts.specs.Record.{sizeColumn, columnsOf}
 use Rattle.routes.specs.Files.{sizeStage, tailStage}
-use Rattle.routes.specs.Sources.{records}
+use Rattle.routes.specs.Sources.{records, behindRecords}
 use Rattle.routes.specs.Stages.{nothing}
 use Rattle.routes.specs.Walk.{walkFrom, finished}
 use Rattle.corrections.specs.Reading.{Entry, Reading, refused, said, readLog}
@@ -78,7 +78,7 @@ writeOrder lent rec = roomStage 133 lent ∷ recordOrder 0 rec
 abbrev pub fileOrder : List ℕ → List Verdict
 fileOrder f =
     sizeStage f ∷
-    walkFrom nothing 1 (records f) ∷
+    walkFrom (behindRecords f) nothing 1 (records f) ∷
     tailStage (length f) (length (records f)) ∷
     finished (records f) ∷
     []

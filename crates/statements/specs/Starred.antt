@@ -86,14 +86,17 @@ Meets (pick frozen log wanted a) = answerOf (pickOf frozen log wanted) ≡ a
 
 -- ---- the records, the frozen file and the log
 
--- a legal leg of a sequence number and a terminator; it has every field that these need
+-- a legal leg of a sequence number and a terminator, of an approach; it has every field that these need. And the same of a departure.
 unfoldable pub leg : String → String → List ℕ
 leg sequence terminator = approach at 27 is sequence at 48 is terminator
 
--- "Routes P, Q, R of one record each": the transition names the route, and the file record number ends in the correction that put the
--- record in, or in 0 for the frozen file
+unfoldable pub departure : String → String → List ℕ
+departure sequence terminator = leg sequence terminator at 13 is "D" at 20 is "1"
+
+-- "Routes P, Q, R of one record each": a missed approach, which one leg may begin and end; the transition names the route, and the file record
+-- number ends in the correction that put the record in, or in 0 for the frozen file
 unfoldable pub only : (route correction : String) → List ℕ
-only route correction = approach at 21 is route at 128 is correction
+only route correction = approach at 20 is "Z" at 21 is route at 128 is correction
 
 unfoldable pub frozen : List ℕ
 frozen = lines (only "P" "0" ∷ only "Q" "0" ∷ only "R" "0" ∷ [])
@@ -114,7 +117,12 @@ log =
     (line "C" (codes "4") (replaced "Q" "2" "4"
     (line "C" (codes "5") (replaced "R" "3" "5" []))))))))))
 
--- ---- the table: the paper's cases in its order, with the cycles 2013 and 2014, which it does not star
+-- a log whose one correction makes the leg of P a heading to an intercept, which may not end a route
+unfoldable pub unended : List ℕ
+unended = line "C" (codes "1") (line "D" (only "P" "0") (line "A" (only "P" "1" at 48 is "VI") []))
+
+-- ---- the table: the paper's cases in its order, with what it does not star: last legs, in a file and after a correction, and the cycles 2013
+-- and 2014
 
 unfoldable pub starred : List Row
 starred =
@@ -129,8 +137,9 @@ starred =
     read (full at 48 is "HM" at 75 is "T010") (distanceIs (Minutes (record { 0 = 10 }))) ∷  -- tenths of a minute
     read (full at 48 is "CF" at 75 is "T010") (refused 3 75) ∷
     checked (lines (leg "010" "IF" ∷ leg "020" "TF" ∷ [])) Accepted ∷
-    checked (lines (leg "010" "CA" ∷ leg "020" "TF" ∷ [])) (Refused (refusal 8 2 48)) ∷
+    checked (lines (departure "010" "CA" ∷ departure "020" "TF" ∷ [])) (Refused (refusal 8 2 48)) ∷
     checked (lines (leg "010" "TF" ∷ [])) (Refused (refusal 8 1 48)) ∷
+    checked (lines (leg "010" "IF" ∷ leg "020" "VI" ∷ [])) (Refused (refusal 8 2 49)) ∷
     read (full at 48 is "CA" at 85 is "     ") (refused 5 85) ∷
     checked (lines (leg "010" "CA" at 85 is "     " ∷ [])) (Refused (refusal 5 1 85)) ∷
     read (full at 129 is "2013") good ∷
@@ -139,4 +148,5 @@ starred =
     pick frozen log (4 ∷ 4 ∷ []) (takes (2 ∷ 4 ∷ []) 3) ∷
     pick frozen log [] (takes [] 3) ∷
     pick frozen log (6 ∷ []) (refuses 12 1 0) ∷
+    pick frozen unended [] (refuses 11 1 8) ∷
     []
