@@ -121,8 +121,8 @@ log =
 unfoldable pub unended : List ℕ
 unended = line "C" (codes "1") (line "D" (only "P" "0") (line "A" (only "P" "1" at 48 is "VI") []))
 
--- ---- the table: the paper's cases in its order, with what it does not star: last legs, in a file and after a correction, and the cycles 2013
--- and 2014
+-- ---- the table: the paper's cases in its order, with the cycles 2013 and 2014, which it does not star; and last legs, in a file and after a
+-- correction
 
 unfoldable pub starred : List Row
 starred =
@@ -139,7 +139,6 @@ starred =
     checked (lines (leg "010" "IF" ∷ leg "020" "TF" ∷ [])) Accepted ∷
     checked (lines (departure "010" "CA" ∷ departure "020" "TF" ∷ [])) (Refused (refusal 8 2 48)) ∷
     checked (lines (leg "010" "TF" ∷ [])) (Refused (refusal 8 1 48)) ∷
-    checked (lines (leg "010" "IF" ∷ leg "020" "VI" ∷ [])) (Refused (refusal 8 2 49)) ∷
     read (full at 48 is "CA" at 85 is "     ") (refused 5 85) ∷
     checked (lines (leg "010" "CA" at 85 is "     " ∷ [])) (Refused (refusal 5 1 85)) ∷
     read (full at 129 is "2013") good ∷
@@ -148,5 +147,6 @@ starred =
     pick frozen log (4 ∷ 4 ∷ []) (takes (2 ∷ 4 ∷ []) 3) ∷
     pick frozen log [] (takes [] 3) ∷
     pick frozen log (6 ∷ []) (refuses 12 1 0) ∷
+    checked (lines (leg "010" "IF" ∷ leg "020" "VI" ∷ [])) (Refused (refusal 8 2 49)) ∷
     pick frozen unended [] (refuses 11 1 8) ∷
     []
