@@ -16,6 +16,7 @@ use Rattle.slices.specs.Part.{part, member}
 use Rattle.columns.specs.Rows.{byteIn}
 use Rattle.slices.proofs.PartLaws.{member-append, member-replicate}
 use Rattle.slices.proofs.SearchLaws.{first-within}
+use Rattle.slices.proofs.OrderLaws.{equal-iff}
 use Rattle.slices.specs.Order.{order, equal}
 use Rattle.slices.specs.Search.{firstAt}
 use borrow.Author.Tests.{eqb-true, eqb-false, ne-eqb, ltb-true}
@@ -162,6 +163,29 @@ module _ (t u : Terminator) where
   unfolding cell kept
   pairs-agree =
       agreement (listed t u) (pair t u) (oldPair t u) (alike-same _ _ (and-right (byName t u) (kept t u) (and-right (held t u) (byName t u && kept t u) cell-of)))
+
+-- the page's columns and its rows are headed by the names in their order, so a mark is read under its own
+headOfColumn : Terminator → List ℕ
+headOfColumn t = part 2 (terminatorNumber t * 3 + 3) (codes (getD page 0 ""))
+
+headOfRow : Terminator → List ℕ
+headOfRow t = part 2 0 (codes (getD page (terminatorNumber t + 1) ""))
+
+isHeaded : Terminator → Bool
+isHeaded t = equal (headOfColumn t) (nameOf t) && equal (headOfRow t) (nameOf t)
+
+all-headed : every isHeaded inOrder ≡ true
+unfolding every isHeaded headOfColumn headOfRow page codes part nameOf texts terminators equal order inOrder terminatorNumber
+all-headed = refl
+
+pub headed : (t : Terminator) → (part 2 (terminatorNumber t * 3 + 3) (codes (getD page 0 "")) ≡ nameOf t)
+    × (part 2 0 (codes (getD page (terminatorNumber t + 1) "")) ≡ nameOf t)
+unfolding isHeaded headOfColumn headOfRow
+headed t =
+    let both = each-terminator isHeaded all-headed t in (
+      equal-iff (headOfColumn t) (nameOf t) .0 (and-left (equal (headOfColumn t) (nameOf t)) (equal (headOfRow t) (nameOf t)) both),
+      equal-iff (headOfRow t) (nameOf t) .0 (and-right (equal (headOfColumn t) (nameOf t)) (equal (headOfRow t) (nameOf t)) both),
+    )
 
 -- ---- first and last legs
 

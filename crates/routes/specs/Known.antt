@@ -12,7 +12,8 @@ use Rattle.refusals.specs.declared.Verdict.the-variants.{Accepted, Refused}
 use Rattle.leg.specs.Judge.{judged}
 use Rattle.leg.specs.Legal.{Legal}
 use Rattle.routes.specs.InTurn.{inTurn}
-use Rattle.routes.specs.Sources.{firstOfLog, recordAt}
+use Rattle.routes.specs.Sources.{firstOfLog, recordAt, sourcesIn, recordsIn}
+use Rattle.routes.specs.declared.Sources.{Sources}
 use Rattle.routes.specs.Stages.{Seen, nothing}
 use Rattle.routes.specs.Walk.{endsRoute, judgedBehind, judgedNext, seenWith, finished}
 
@@ -54,6 +55,10 @@ module _ (known frozen log : List ℕ) where
       (judgedKnowing (knows known x) s place (endsRoute (recordAt frozen log x) (map (recordAt frozen log) xs ++ ahead)) (recordAt frozen log x) ∷
       walkKnowing ahead (seenWith s (recordAt frozen log x)) (place + 1) xs ∷
       [])
+
+  -- those of a range of sources, counted from 1; the others up to `ahead` are in view
+  abbrev pub rangeKnowing : Sources → (from to ahead : ℕ) → Verdict
+  rangeKnowing s from to ahead = walkKnowing (recordsIn frozen log s to ahead) nothing 1 (sourcesIn s from to)
 
   -- counted from 1, with nothing ahead of them, and then what is missing at their end
   unfoldable pub walkedKnowing : List ℕ → Verdict

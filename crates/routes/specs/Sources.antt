@@ -32,6 +32,10 @@ sourcesIn s from to = drop from (take to (inUse s))
 unfoldable pub recordsIn : List ℕ → List ℕ → Sources → (from to : ℕ) → List (List ℕ)
 recordsIn frozen log s from to = map (recordAt frozen log) (sourcesIn s from to)
 
+-- the records of some sources, from one on up to another
+abbrev pub viewed : (frozen log sources : List ℕ) (from to : ℕ) → List (List ℕ)
+viewed frozen log xs from to = map (recordAt frozen log) (drop from (take to xs))
+
 -- a file's records: its leading pieces of 133 bytes that end in a line feed, at most so many; each without its line feed
 unfoldable pub leading : ℕ → List ℕ → List (List ℕ)
 leading zero f = []

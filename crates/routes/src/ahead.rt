@@ -1,8 +1,6 @@
 // What comes behind a record: whether it is the last leg of its route. What is looked at here is not judged. Assumes nothing of the caller.
 ghost use mathlib.Core.Path.{_≡_};
-ghost use mathlib.Core.List.{map};
-ghost use lib.ListN.{take, drop};
-ghost use Rattle.routes.specs.Sources.{recordAt};
+ghost use Rattle.routes.specs.Sources.{viewed};
 ghost use Rattle.routes.specs.Stages.{columnsTo};
 ghost use Rattle.routes.specs.Walk.{followed, endsRoute};
 use crate::KEY;
@@ -21,7 +19,7 @@ fn followed<'a>(
     to: usize,
     rec: &'a [u8],
 ) -> bool
-    ensures { λ r. ⌜ r ≡ followed (columnsTo 25 (now (rec .entry))) (map (recordAt (now (frozen .entry)) (now (log .entry))) (drop from (take to (now (sources .entry))))) ⌝ }
+    ensures { λ r. ⌜ r ≡ followed (columnsTo 25 (now (rec .entry))) (viewed (now (frozen .entry)) (now (log .entry)) (now (sources .entry)) from to) ⌝ }
 {
     let end = least(to, sources.len());
     let mut i = from;
@@ -52,7 +50,7 @@ pub(crate) fn ends_route<'a>(
     to: usize,
     rec: &'a [u8],
 ) -> bool
-    ensures { λ r. ⌜ r ≡ endsRoute (now (rec .entry)) (map (recordAt (now (frozen .entry)) (now (log .entry))) (drop from (take to (now (sources .entry))))) ⌝ }
+    ensures { λ r. ⌜ r ≡ endsRoute (now (rec .entry)) (viewed (now (frozen .entry)) (now (log .entry)) (now (sources .entry)) from to) ⌝ }
 {
     let kind = columns::kind_of(rec);
     match kind {

@@ -11,9 +11,9 @@ ghost use mathlib.Core.List.{[], _∷_};
 ghost use Prim.Native.Nat.{_≤_};
 ghost use lib.ListN.{length};
 ghost use Rattle.routes.specs.InTurn.{inTurn};
-ghost use Rattle.routes.specs.Known.{judgedKnowing, walkKnowing, walkedKnowing};
+ghost use Rattle.routes.specs.Known.{judgedKnowing, rangeKnowing, walkedKnowing};
 ghost use Rattle.routes.specs.Sources.{logSource, recordAt, sourcesIn, recordsIn, sourcesTo, records, sourcesOf};
-ghost use Rattle.routes.specs.Stages.{seen, nothing};
+ghost use Rattle.routes.specs.Stages.{seen};
 ghost use Rattle.routes.specs.Walk.{judgedBehind, primaryAfter, finished, walked};
 ghost use Rattle.routes.specs.Files.{tailStage, fileVerdict};
 use ahead::ends_route;
@@ -179,7 +179,7 @@ fn walk<'a>(
     ahead: usize,
 ) -> Verdict
     requires { ⌜ to ≤ ahead ⌝ }
-    ensures { λ r. ⌜ r ≡ walkKnowing (now (known .entry)) (now (frozen .entry)) (now (log .entry)) (recordsIn (now (frozen .entry)) (now (log .entry)) sources to ahead) nothing 1 (sourcesIn sources from to) ⌝ }
+    ensures { λ r. ⌜ r ≡ rangeKnowing (now (known .entry)) (now (frozen .entry)) (now (log .entry)) sources from to ahead ⌝ }
 {
     let count = sources.count;
     let all = sources.at;

@@ -10,7 +10,19 @@ use leg::terminator::Terminator;
 use slices::byte_at;
 use slices::has;
 
-// A line for each leg, a cell for each that may come behind it, in the order of the terminators: + where it may, - where not.
+// How many terminators there are, and how many kinds of route; how many bytes the line of a kind has, and how many of them are types.
+const LEGS: usize = 23;
+
+const KIND_COUNT: usize = 9;
+
+const KIND_WIDTH: usize = 19;
+
+const MOST_TYPES: usize = KIND_WIDTH - 1;
+
+// In these three tables a cell is + where a leg may stand and - where not. The legs are in the order of the terminators:
+// AF CA CD CF CI CR DF FA FC FD FM HA HF HM IF PI RF TF VA VD VI VM VR.
+
+// A line for each leg, a cell for each that may come behind it.
 const PAIRS: [u8; 529] = *b"\
     ++++++++++++++-++++++++\
     +++++++-----------+++++\
@@ -59,7 +71,7 @@ const ENDINGS: [u8; 207] = *b"\
     ++-+--+---+--+---++--+-\
     ++-+--+---+--+---++--+-";
 
-// For each kind of route the subsection, and the route types with blanks up to eighteen places.
+// For each kind of route the subsection, and the route types with blanks behind them.
 const KINDS: [u8; 171] = *b"\
     D014FT             \
     D25M               \
@@ -83,10 +95,10 @@ fn kind_among(kinds: &[u8], rec: &[u8]) -> usize
     let subsection = byte_at(rec, SUBSECTION - 1);
     let route_type = byte_at(rec, ROUTE_TYPE - 1);
     let mut i = 0;
-    while i < 9 {
-        let at = i * 19;
+    while i < KIND_COUNT {
+        let at = i * KIND_WIDTH;
         if (byte_at(kinds, at) == subsection)
-            & ((route_type != b' ') & has(kinds, at + 1, 18, route_type))
+            & ((route_type != b' ') & has(kinds, at + 1, MOST_TYPES, route_type))
         {
             return i;
         }
@@ -108,7 +120,7 @@ pub(crate) fn first_leg(rec: &[u8]) -> bool
 {
     let k = kind_number(rec);
     let n = Terminator::of(rec).number();
-    byte_at(&BEGINNINGS, k * 23 + n) == b'+'
+    byte_at(&BEGINNINGS, k * LEGS + n) == b'+'
 }
 
 // Whether the record may be the last leg of its route.
@@ -117,7 +129,7 @@ pub(crate) fn last_leg(rec: &[u8]) -> bool
 {
     let k = kind_number(rec);
     let n = Terminator::of(rec).number();
-    byte_at(&ENDINGS, k * 23 + n) == b'+'
+    byte_at(&ENDINGS, k * LEGS + n) == b'+'
 }
 
 // Whether a leg of u may follow a leg of t within a route.
@@ -126,5 +138,5 @@ pub(crate) fn pair(t: Terminator, u: Terminator) -> bool
 {
     let m = t.number();
     let n = u.number();
-    PAIRS[m * 23 + n] == b'+'
+    PAIRS[m * LEGS + n] == b'+'
 }
