@@ -2,7 +2,7 @@
 -- Assumes nothing.
 use mathlib.Core.Path.{_≡_, refl, sym, ap, ap₂, subst, _∙_}
 use mathlib.Core.Logic.{_↔_, _⊎_, inl, inr, ⊎-elim}
-use mathlib.Core.Bool.{Bool, true, false, not, _&&_, _||_, false≢true}
+use mathlib.Core.Bool.{Bool, true, false, _&&_, false≢true}
 use mathlib.Core.List.{List, [], _∷_, _++_, map, append-assoc, List·Memᴰ·cases-cons, List·Memᴰ·eq-of-singleton}
 use Prim.Native.Nat.{ℕ, _≤_}
 use native.Mathlib.Omega.{arith}
@@ -24,7 +24,7 @@ use Rattle.refusals.specs.declared.Verdict.the-variants.{Accepted}
 use Rattle.leg.specs.Legal.{Legal, LegalLeg}
 use Rattle.routes.specs.Pairs.{terminatorIn, firstLeg, lastLeg, pair}
 use Rattle.routes.specs.Stages.{Seen, seen, numberAfter, awaits}
-use Rattle.routes.specs.Walk.{isPrimary, followed, endsRoute, walked}
+use Rattle.routes.specs.Walk.{followed, endsRoute, walked}
 use Rattle.routes.specs.Files.{fileVerdict}
 use Rattle.routes.specs.Places.{keyOf, sequenceOf, Before, Every, Rising}
 use Rattle.routes.specs.Legal.{LegRecords, Route, recordsOfLegs, recordsOfRoutes, numbers, RightLeg, Neighbours, Follows, MayEnd, finalLeg, RightRoute, RightRoutes, lines, LegalFile}

@@ -12,23 +12,23 @@ use native.Mathlib.Nat.{le-of-suc-le-suc, not-suc-le-zero}
 use native.Mathlib.Decide.{decLt}
 use lib.Dec.{eqb, ltb}
 use lib.ListN.{length, getD, replicate}
+use borrow.Author.Tests.{eqb-true, eqb-false, ne-eqb, ltb-true}
 use Rattle.slices.specs.Part.{part, member}
-use Rattle.columns.specs.Rows.{byteIn}
 use Rattle.slices.proofs.PartLaws.{member-append, member-replicate}
 use Rattle.slices.proofs.SearchLaws.{first-within}
 use Rattle.slices.proofs.OrderLaws.{equal-iff}
 use Rattle.slices.specs.Order.{order, equal}
 use Rattle.slices.specs.Search.{firstAt}
-use borrow.Author.Tests.{eqb-true, eqb-false, ne-eqb, ltb-true}
 use Rattle.slices.proofs.Cases.{split, and-left, and-right}
+use Rattle.columns.specs.Rows.{byteIn}
 use Rattle.columns.specs.Patterns.{codes, texts}
 use Rattle.columns.specs.Terminators.{terminators}
 use Rattle.leg.specs.Terminator.{inOrder, terminatorNumber, nameOf, terminatorAt, terminatorOf, among, endsAtFix}
 use Rattle.leg.specs.declared.terminator.Terminator.{Terminator}
 use Rattle.leg.specs.declared.terminator.Terminator.the-variants.{Vr}
 use Rattle.leg.proofs.TerminatorLaws.{row-of, past}
-use Rattle.routes.specs.LegTable.{named, page, RouteKind, routeKinds, Cell, pairDifferences, firstDifferences, lastDifferences}
-use Rattle.routes.specs.Pairs.{isOne, onlyFirst, neverFirst, followsFix, oldPair, mark, readable, pair, ofKind, ofLine, kindLines, kindNumber, kindAt, mayBegin, mayEnd}
+use Rattle.routes.specs.LegTable.{named, page, RouteKind, routeKinds, pairDifferences, firstDifferences, lastDifferences}
+use Rattle.routes.specs.Pairs.{isOne, onlyFirst, neverFirst, followsFix, oldPair, mark, readable, pair, ofKind, ofLine, kindLines, kindNumber, kindAt, mayBegin, mayEnd, Agreement, listed}
 
 -- ---- a test over the whole, carried to each
 
@@ -90,11 +90,6 @@ alike-same false false e = refl
 
 -- ---- how a table stands to the rule before it
 
--- elsewhere than at the listed cells it says the same, and at each of these the contrary
-pub record Agreement (listed new old : Bool) : Type 0 where
-  pub elsewhere : listed ≡ false → new ≡ old
-  pub there : listed ≡ true → new ≡ not old
-
 turned : Bool → Bool → Bool
 turned listed old = cond listed (not old) old
 
@@ -120,14 +115,6 @@ pairsTable = joined (map (λ t. map (λ u. sign (pair t u)) inOrder) inOrder)
 unfoldable pub marked : (leg next : Terminator) → Bool
 marked t u = (isOne "IF" t && isOne "FA FC FD FM HA HF HM IF PI RF" u) || (isOne "CF DF FC" t && isOne "DF" u)
 
--- a cell at which the old rule said the contrary
-isIn : List Cell → (leg next : Terminator) → Bool
-isIn [] t u = false
-isIn (c ∷ cs) t u = (isOne (c .leg) t && isOne (c .next) u) || isIn cs t u
-
-pub listed : (leg next : Terminator) → Bool
-listed t u = isIn pairDifferences t u
-
 -- of one cell: the code holds it, the marks are those by name, and the old rule is kept or turned
 held : Terminator → Terminator → Bool
 held t u = alike (eqb (getD pairsTable (terminatorNumber t * 23 + terminatorNumber u) 0) 43) (pair t u)
@@ -136,13 +123,13 @@ byName : Terminator → Terminator → Bool
 byName t u = alike (readable t u) (marked t u)
 
 kept : Terminator → Terminator → Bool
-kept t u = alike (pair t u) (turned (listed t u) (oldPair t u))
+kept t u = alike (pair t u) (turned (listed pairDifferences t u) (oldPair t u))
 
 cell : Terminator → Terminator → Bool
 cell t u = held t u && (byName t u && kept t u)
 
 all-cells : every (λ t. every (cell t) inOrder) inOrder ≡ true
-unfolding every cell held byName kept alike turned listed isIn pairDifferences marked sign joined pairsTable pair readable mark page codes oldPair onlyFirst followsFix endsAtFix among nameOf texts terminators named equal order inOrder terminatorNumber
+unfolding every cell held byName kept alike turned listed pairDifferences marked sign joined pairsTable pair readable mark page codes oldPair onlyFirst followsFix endsAtFix among nameOf texts terminators named equal order inOrder terminatorNumber
 all-cells = refl
 
 module _ (t u : Terminator) where
@@ -159,10 +146,10 @@ module _ (t u : Terminator) where
   marks-named = alike-same _ _ (and-left (byName t u) (kept t u) (and-right (held t u) (byName t u && kept t u) cell-of))
 
   -- "it agrees with our old rule at every cell but those in a stated list, and differs at each of those"
-  pub pairs-agree : Agreement (listed t u) (pair t u) (oldPair t u)
+  pub pairs-agree : Agreement (listed pairDifferences t u) (pair t u) (oldPair t u)
   unfolding cell kept
   pairs-agree =
-      agreement (listed t u) (pair t u) (oldPair t u) (alike-same _ _ (and-right (byName t u) (kept t u) (and-right (held t u) (byName t u && kept t u) cell-of)))
+      agreement (listed pairDifferences t u) (pair t u) (oldPair t u) (alike-same _ _ (and-right (byName t u) (kept t u) (and-right (held t u) (byName t u && kept t u) cell-of)))
 
 -- the page's columns and its rows are headed by the names in their order, so a mark is read under its own
 headOfColumn : Terminator → List ℕ

@@ -4,7 +4,8 @@
 use Prim.Native.Nat.{ℕ, _+_, _*_}
 use Prim.Native.Char.{code}
 use Prim.Native.String.{String}
-use mathlib.Core.Bool.{Bool, not, _&&_, _||_}
+use mathlib.Core.Path.{_≡_}
+use mathlib.Core.Bool.{Bool, true, false, not, _&&_, _||_}
 use mathlib.Core.List.{List, [], _∷_}
 use lib.Dec.{eqb}
 use lib.ListN.{getD}
@@ -15,7 +16,7 @@ use Rattle.columns.specs.Rows.{byteIn}
 use Rattle.columns.specs.Words.{columns}
 use Rattle.leg.specs.Terminator.{nameOf, terminatorNumber, terminatorOf, among, endsAtFix}
 use Rattle.leg.specs.declared.terminator.Terminator.{Terminator}
-use Rattle.routes.specs.LegTable.{named, page, RouteKind, kind, routeKinds}
+use Rattle.routes.specs.LegTable.{named, page, RouteKind, kind, routeKinds, Cell}
 
 abbrev pub terminatorIn : List ℕ → Terminator
 terminatorIn rec = terminatorOf (columns 48 49 rec)
@@ -90,3 +91,15 @@ firstLeg rec = mayBegin (kindNumber rec) (terminatorIn rec)
 
 unfoldable pub lastLeg : List ℕ → Bool
 lastLeg rec = mayEnd (kindNumber rec) (terminatorIn rec)
+
+-- ---- how the tables stand to the rule before them
+
+-- elsewhere than at the listed cells a table says the same, and at each of these the contrary
+pub record Agreement (listed new old : Bool) : Type 0 where
+  pub elsewhere : listed ≡ false → new ≡ old
+  pub there : listed ≡ true → new ≡ not old
+
+-- a leg and the next are one of some cells
+unfoldable pub listed : List Cell → (leg next : Terminator) → Bool
+listed [] t u = false
+listed (c ∷ cs) t u = (isOne (c .leg) t && isOne (c .next) u) || listed cs t u

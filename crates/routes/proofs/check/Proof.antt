@@ -1,6 +1,5 @@
 -- The sources of the file's pieces give its own records and what is behind them; then stage by stage. Assumes nothing.
 use mathlib.Core.Path.{refl}
-use native.Mathlib.Omega.{arith}
 use Rattle.routes.specs.Sources.{records}
 use Rattle.routes.proofs.SourceLaws.{at-most, fewer}
 use Rattle.routes.proofs.FileLaws.{too-long, not-too-long, own-walk, own-finish, own-tail}

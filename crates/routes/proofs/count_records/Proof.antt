@@ -2,7 +2,6 @@
 use mathlib.Core.Path.{_≡_, sym, _∙_}
 use Prim.Native.Nat.{_≤_, _-_, _+_}
 use native.Mathlib.Nat.{zero-add}
-use native.Mathlib.Omega.{arith}
 use lib.ListN.{length}
 use Rattle.routes.specs.Sources.{records}
 use Rattle.routes.proofs.SourceLaws.{recordsLeft, left-start, left-stop, left-next, left-end, one-more, none-left}

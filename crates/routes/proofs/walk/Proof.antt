@@ -2,7 +2,7 @@
 use mathlib.Core.Path.{_≡_, sym, _∙_}
 use Prim.Native.Nat.{_≤_, _-_, min}
 use lib.ListN.{length}
-use Rattle.routes.specs.Sources.{inUse, sourcesIn, recordsIn}
+use Rattle.routes.specs.Sources.{sourcesIn, recordsIn}
 use Rattle.routes.specs.Stages.{nothing}
 use Rattle.routes.specs.Known.{walkKnowing}
 use Rattle.routes.proofs.Turns.{walking, walking-start, walking-stop, walking-next, walking-end}
