@@ -156,3 +156,39 @@ fn what_lies_behind_is_judged_in_its_own_turn() {
     refused(&[middle.clone(), cut_off[..LINE - 1].to_vec()], 8, 1, 49);
     refused(&[middle, record("FZ", 10, "2", "CI"), cut_off], 6, 2, 39);
 }
+
+/// The lines of a part of docs/LEG-TABLE.md, which a tool makes from the proved code's definitions.
+fn part_of_the_document(name: &str) -> Vec<&'static str> {
+    let document = include_str!("../../docs/LEG-TABLE.md");
+    let from = format!("<!-- leg-table: {name} -->");
+    document
+        .lines()
+        .skip_while(move |line| *line != from)
+        .skip(1)
+        .take_while(|line| *line != "<!-- leg-table: end -->")
+        .collect()
+}
+
+#[test]
+fn the_document_shows_the_same_pairs() {
+    let part = part_of_the_document("judged");
+    let rows: Vec<Vec<&str>> = part.iter().map(|line| line.split_whitespace().collect()).collect();
+    assert_eq!(rows[1], terminators().collect::<Vec<_>>());
+    assert!(rows.len() >= 2 + 23);
+    for (before, row) in terminators().zip(&rows[2..]) {
+        let cells = terminators().map(|leg| if may_follow(before, leg) { "+" } else { "-" });
+        assert_eq!(*row, std::iter::once(before).chain(cells).collect::<Vec<_>>());
+    }
+}
+
+#[test]
+fn the_document_shows_the_same_beginnings_and_endings() {
+    let part = part_of_the_document("kinds");
+    assert!(part.len() >= 2 + ROUTE_KINDS.len());
+    for ((place, kind), line) in (0..).zip(&ROUTE_KINDS).zip(&part[2..]) {
+        let cells: Vec<&str> = line.split('|').map(str::trim).collect();
+        assert_eq!(cells[2..4], [kind.subsection, kind.route_types]);
+        assert_eq!(cells[4], those(|leg| may_begin(place, leg)).join(" "));
+        assert_eq!(cells[5], those(|leg| may_end(place, leg)).join(" "));
+    }
+}
