@@ -8,7 +8,7 @@ use native.Mathlib.Numerals.{add-one}
 use native.Mathlib.Decide.{decLt}
 use lib.Dec.{eqb}
 use lib.ListN.{length, getD, take, drop, set, replicate, length-take, length-drop, length-map, drop-of-length-le, List·getD-eq-default}
-use lib.Seq.{set-at, append-snoc, take-at, take-take, getD-drop, getD-take, drop-drop, drop-cons, take-all}
+use lib.Seq.{set-at, append-snoc, take-nil, drop-nil, take-at, take-take, getD-drop, getD-take, drop-drop, drop-cons, take-all}
 use borrow.Author.Tests.{le-leb, lt-leb, lt-ltb, le-ltb, eq-eqb, ne-eqb, eqb-true}
 use Rattle.slices.proofs.Cases.{split}
 use Rattle.routes.specs.Sources.{recordWithin, firstOfLog, recordAt, inUse, sourcesIn, recordsIn, leading, records, starts, pieces, behindRecords, sourcesFor, sourcesTo, sourcesOf}
@@ -139,17 +139,9 @@ module _ (s : Sources) (long : length (s .at) ≡ 480) (to i : ℕ) where
       let q : i < length (take to (take (s .count) (s .at))) = simp length-take (omega arith) in
       rw (add-one, drop-cons (take to (take (s .count) (s .at))) i 0 q, getD-take to (take (s .count) (s .at)) i 0 (omega arith), getD-take (s .count) (s .at) i 0 (omega arith))
 
-take-none : (n : ℕ) → take {A = ℕ} n [] ≡ []
-take-none zero = refl
-take-none (suc n) = refl
-
-drop-none : (n : ℕ) → drop {A = ℕ} n [] ≡ []
-drop-none zero = refl
-drop-none (suc n) = refl
-
 -- two ranges one behind the other are one
 pub range-join : (i to ahead : ℕ) (xs : List ℕ) → i ≤ to → to ≤ ahead → drop i (take to xs) ++ drop to (take ahead xs) ≡ drop i (take ahead xs)
-range-join i to ahead [] h k = rw (take-none to, take-none ahead, drop-none i, drop-none to)
+range-join i to ahead [] h k = rw (take-nil to, take-nil ahead, drop-nil i, drop-nil to)
 range-join zero zero ahead (x ∷ xs) h k = refl
 range-join zero (suc to) zero (x ∷ xs) h k = absurd (omega arith)
 range-join zero (suc to) (suc ahead) (x ∷ xs) h k = ap (λ (l : List ℕ). x ∷ l) (range-join zero to ahead xs (omega arith) (omega arith))

@@ -81,8 +81,8 @@ pub answer-refused : (longest lent : ℕ) (answer : List ℕ) (r : Refusal)
 answer-refused = order.answer-first
 
 -- And the stages that look at many things one after the other: the records of a file or of a route, whatever is ahead of them, by the first
--- record and there the first stage; the fields of a record from left to right, its companions by their groups, the fields that it needs; the lines of a log, which goes
--- wrong at one place at most; the wanted numbers; the corrections.
+-- record and there the first stage; the fields of a record from left to right, its companions by their groups, the fields that it needs; the
+-- lines of a log, which goes wrong at one place at most; the wanted numbers; the corrections.
 
 pub first-record : (ahead recs : List (List ℕ)) (r : Refusal) → (walkFrom ahead nothing 1 recs ≡ Refused r) ↔ FirstRecord ahead r nothing 1 recs
 first-record ahead recs r = walk-refuses ahead r nothing 1 recs
