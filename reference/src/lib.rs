@@ -9,6 +9,7 @@
 //! - `record`: from 133 bytes to parts, and back
 //! - `cases`: the stored set of records
 //! - `report`: what this program answers to that set
+//! - `terminators`: every pair of bytes in the place of a terminator, and what this program answers to them
 //! - `legs`: which leg may begin a route, follow another and end a route
 //! - `file`: a whole file, and the stages that look at several records (1, 2, 6, 7, 8)
 //! - `files`: the stored set of files, and what this program answers to it
@@ -45,6 +46,7 @@ pub mod random_folders;
 pub mod random_picks;
 pub mod record;
 pub mod report;
+pub mod terminators;
 pub mod times;
 pub mod wanted;
 
@@ -55,8 +57,8 @@ pub use record::{read, write};
 /// A stored file, by its path from this package, and what it holds.
 pub type Stored = (&'static str, Vec<u8>);
 
-/// All stored files: of columns, of records, of files, of logs and lists, of
-/// picks, of folders.
+/// All stored files: of columns, of records, of terminators, of files, of logs
+/// and lists, of picks, of folders.
 pub fn stored_files() -> Vec<Stored> {
     let set = cases::all();
     let records = [
@@ -66,6 +68,7 @@ pub fn stored_files() -> Vec<Stored> {
     columns::stored_files()
         .into_iter()
         .chain(records)
+        .chain(terminators::stored_files())
         .chain(files::stored_files())
         .chain(logs::stored_files())
         .chain(pick_vectors::stored_files())

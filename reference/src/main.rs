@@ -1,5 +1,5 @@
-//! Writes the stored sets of columns, of records, of files, of logs, of picks and
-//! of folders, and the answers to them and to the examples. Or one of these:
+//! Writes the stored sets of columns, of records, of terminators, of files, of
+//! logs, of picks and of folders, and the answers to them and to the examples. Or one of these:
 //!
 //! - `times FOLDER`: the inputs whose times are measured, into a folder
 //! - `folders PLACE`: the stored folders as folders, and what the programs are to print of each

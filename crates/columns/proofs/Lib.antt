@@ -4,6 +4,7 @@ pub mod FieldLaws
 pub mod LetterLaws
 pub mod PatternLaws
 pub mod RowLaws
+pub mod TerminatorList
 pub mod Tied
 pub mod Tiled
 pub mod Printable

@@ -3,7 +3,7 @@
 use mathlib.Core.Path.{_≡_, refl, sym, ap, subst, _∙_}
 use mathlib.Core.Logic.{_↔_, inl, inr, ⊎-elim, Iff·trans, Iff·and, Iff·rfl}
 use mathlib.Core.Bool.{Bool, true, false, cond, _&&_, _||_, false≢true}
-use mathlib.Core.List.{List, [], _∷_, map, List·Memᴰ, List·Memᴰ·cases-cons, List·Memᴰ·not-nil}
+use mathlib.Core.List.{List, [], _∷_, List·Memᴰ}
 use Prim.Native.Nat.{ℕ, _≤_}
 use Prim.Native.Char.{Char, code}
 use native.Mathlib.Omega.{arith}
@@ -12,7 +12,7 @@ use borrow.Author.Tests.{eqb-true, eq-eqb}
 use Rattle.slices.specs.Part.{blank, member}
 use Rattle.slices.proofs.Cases.{split, either, or-left, or-right}
 use Rattle.slices.proofs.PartLaws.{blank-iff, member-iff}
-use Rattle.columns.specs.Patterns.{codes, texts}
+use Rattle.columns.specs.Patterns.{texts}
 use Rattle.columns.specs.Terminators.{terminators}
 use Rattle.columns.specs.Kinds.{kindOf, firstBadField}
 use Rattle.columns.specs.Rows.{byteIn}
@@ -24,14 +24,14 @@ use Rattle.refusals.specs.Table.{fieldContent, companionBlank, neededBlank}
 use Rattle.refusals.specs.declared.Refusal.{Refusal}
 use Rattle.refusals.specs.declared.Verdict.{Verdict}
 use Rattle.refusals.specs.declared.Verdict.the-variants.{Accepted, Refused}
-use Rattle.leg.specs.Terminator.{terminatorOf, inOrder, nameOf, terminatorNumber, needed}
+use Rattle.leg.specs.Terminator.{terminatorOf, nameOf, needed}
 use Rattle.leg.specs.declared.terminator.Terminator.{Terminator}
 use Rattle.leg.specs.Stages.{oddOne, companionColumn, needable, asks, missing, neededOf, neededColumn}
 use Rattle.leg.specs.declared.stages.Needable.{Needable}
 use Rattle.leg.specs.Judge.{stage, judgedLeg, byKind, judged}
 use Rattle.leg.specs.Legal.{Filled, Companions, Needs, NeededFields, LegalLeg, Legal}
 use Rattle.leg.proofs.StageLaws.{counted, counted-first, counted-rest}
-use Rattle.leg.proofs.TerminatorLaws.{row-of}
+use Rattle.leg.proofs.TerminatorLaws.{row-of, named}
 
 -- ---- blank and filled
 
@@ -178,19 +178,10 @@ module _ (rec : List ℕ) where
 
 -- ---- the terminator that a legal record names
 
--- a name of the list is the name of a terminator
-names-are : texts terminators ≡ map nameOf inOrder
-unfolding terminators texts codes nameOf terminatorNumber inOrder
-names-are = refl
-
-named : (ts : List Terminator) (f : List ℕ) → List·Memᴰ f (map nameOf ts) → (t : Terminator) × (f ≡ nameOf t)
-named [] f m = absurd (List·Memᴰ·not-nil m)
-named (t ∷ ts) f m = ⊎-elim (λ e. (t, e)) (named ts f) (List·Memᴰ·cases-cons m)
-
 -- the name of a terminator, read and written again
 pub named-back : (f : List ℕ) → List·Memᴰ f (texts terminators) → f ≡ nameOf (terminatorOf f)
 named-back f m =
-    let r = named inOrder f (rw names-are at m) in
+    let r = named f m in
     r .1 ∙ ap nameOf (sym (ap terminatorOf (r .1) ∙ row-of (r .0) .its-name))
 
 -- ---- the whole

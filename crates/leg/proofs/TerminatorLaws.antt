@@ -1,23 +1,30 @@
--- Laws of the terminators: the code's tables hold, for each, what the definitions say of it; and a name is read back.
+-- Laws of the terminators: the code's tables hold, for each, what the definitions say of it; each stands in its place of the list, and what is
+-- found there is it.
 -- Assumes nothing.
-use mathlib.Core.Path.{_≡_, refl, sym, ap, _∙_}
-use mathlib.Core.Bool.{Bool, false, cond, not, _&&_, _||_, or-false}
-use mathlib.Core.List.{List, [], _∷_, _++_, map}
+use mathlib.Core.Path.{_≡_, refl, sym, ap, subst, _∙_}
+use mathlib.Core.Logic.{_↔_, ⊎-elim}
+use mathlib.Core.Bool.{Bool, true, false, cond, not, _&&_, _||_, or-false, false≢true}
+use mathlib.Core.List.{List, [], _∷_, _++_, map, List·Memᴰ, List·Memᴰ·head, List·Memᴰ·tail, List·Memᴰ·cases-cons, List·Memᴰ·not-nil, Memᴰ·cast}
 use Prim.Native.Char.{code}
 use Prim.Native.Nat.{ℕ, zero, suc, _+_, _*_, _-_, _≤_, _<_}
 use native.Mathlib.Omega.{arith}
-use native.Mathlib.Nat.{le-of-suc-le-suc, not-suc-le-zero}
+use native.Mathlib.Decide.{decLt}
+use native.Mathlib.Nat.{le-of-suc-le-suc, not-suc-le-zero, zero-add}
 use lib.Dec.{eqb}
 use lib.ListN.{length, getD, replicate, List·getD-eq-default}
 use borrow.Author.Tests.{eqb-true, eqb-false}
 use Rattle.slices.specs.Part.{part, member}
 use Rattle.slices.specs.Order.{order, equal}
 use Rattle.slices.specs.Search.{firstAt}
-use Rattle.slices.proofs.Cases.{split}
-use Rattle.slices.proofs.PartLaws.{getD-any, member-append, member-replicate}
+use Rattle.slices.proofs.Cases.{split, and-left, and-right}
+use Rattle.slices.proofs.OrderLaws.{equal-iff}
+use Rattle.slices.proofs.PartLaws.{getD-any, part-all, member-append, member-replicate}
+use Rattle.slices.proofs.SearchLaws.{first-before, first-passes}
 use Rattle.columns.specs.Patterns.{codes, texts}
 use Rattle.columns.specs.Terminators.{terminators}
-use Rattle.leg.specs.Terminator.{inOrder, terminatorNumber, nameOf, terminatorAt, terminatorOf, pairs, needs, needed, among, endsAtFix, isHolding}
+use Rattle.columns.specs.Words.{OneOf}
+use Rattle.columns.proofs.TerminatorList.{there-are-23, once}
+use Rattle.leg.specs.Terminator.{inOrder, terminatorNumber, nameOf, terminatorAt, foundAt, terminatorOf, needs, needed, among, endsAtFix, isHolding}
 use Rattle.leg.specs.declared.terminator.Terminator.{Terminator}
 use Rattle.leg.specs.declared.terminator.Terminator.the-variants.{Af, Ca, Cd, Cf, Ci, Cr, Df, Fa, Fc, Fd, Fm, Ha, Hf, Hm, If, Pi, Rf, Tf, Va, Vd, Vi, Vm, Vr}
 
@@ -89,42 +96,44 @@ row-needs t b =
     (ap (λ (x : Bool). member b (needed t) || x) (member-replicate b 32 (8 - length (needed t)) (λ q. eqb-false b 32 e (sym q)))
     ∙ or-false (member b (needed t))))
 
--- the names in the code are those of the list
-unfoldable pub namesTable : List ℕ
-unfolding texts codes terminators
-namesTable = joined (texts terminators)
+-- ---- the list
 
-names-tied : texts terminators ≡ pairs namesTable 23 0
-unfolding namesTable pairs part
-names-tied = refl
+-- numbers that count up from k on
+counts : ℕ → List Terminator → Bool
+counts k [] = true
+counts k (t ∷ ts) = eqb (terminatorNumber t) k && counts (suc k) ts
 
-pub found : (f : List ℕ) (n : ℕ) {t : Terminator} → n ≡ firstAt (equal f) (pairs namesTable 23 0) → t ≡ terminatorAt n → t ≡ terminatorOf f
+counts-at : (k : ℕ) (ts : List Terminator) (i : ℕ) → counts k ts ≡ true → i < length ts → terminatorNumber (getD ts i Vr) ≡ k + i
+unfolding counts
+counts-at k [] i e h = absurd (not-suc-le-zero h)
+counts-at k (t ∷ ts) zero e h = omega (arith, eqb-true (terminatorNumber t) k (and-left (eqb (terminatorNumber t) k) (counts (suc k) ts) e))
+counts-at k (t ∷ ts) (suc i) e h =
+    omega (arith, counts-at (suc k) ts i (and-right (eqb (terminatorNumber t) k) (counts (suc k) ts) e) (le-of-suc-le-suc h))
+
+order-counts : counts 0 inOrder ≡ true
+unfolding counts inOrder terminatorNumber
+order-counts = refl
+
+-- entry i of the list is the name of terminator i, and its number is i
+pub in-place : (i : ℕ) → i < 23 → (getD (texts terminators) i [] ≡ nameOf (terminatorAt i)) × (terminatorNumber (terminatorAt i) ≡ i)
+unfolding nameOf terminatorAt inOrder
+in-place i h =
+    let n : terminatorNumber (terminatorAt i) ≡ i = counts-at 0 inOrder i order-counts h ∙ zero-add i in
+    (ap (λ (k : ℕ). getD (texts terminators) k []) (sym n), n)
+
+-- what is found at a place of the list is the terminator of that place
+pub found : (f : List ℕ) (n : ℕ) {t : Terminator} → n ≡ foundAt f → t ≡ terminatorAt n → t ≡ terminatorOf f
 unfolding terminatorOf
-found f n e h = h ∙ ap terminatorAt (e ∙ ap (firstAt (equal f)) (sym names-tied))
+found f n e h = h ∙ ap terminatorAt e
 
--- the names of a table, one after the other
-pub length-pairs : (t : List ℕ) (n p : ℕ) → length (pairs t n p) ≡ n
-unfolding pairs
-length-pairs t zero p = refl
-length-pairs t (suc n) p = ap suc (length-pairs t n (p + 2))
+-- a name of two letters, laid beside two columns
+pub name-whole : (name : List ℕ) → length name ≡ 2 → part 2 0 name ≡ name
+name-whole name h = subst (λ (n : ℕ). part n 0 name ≡ name) h (part-all name)
 
-pub getD-pairs : (t : List ℕ) (n p i : ℕ) → i < n → getD (pairs t n p) i [] ≡ part 2 (p + i * 2) t
-unfolding pairs
-getD-pairs t zero p i h = absurd (not-suc-le-zero h)
-getD-pairs t (suc n) p zero h = let e : p + 0 * 2 ≡ p = omega arith in rw e
-getD-pairs t (suc n) p (suc i) h = let e : p + 2 + i * 2 ≡ p + suc i * 2 = omega arith in getD-pairs t n (p + 2) i (le-of-suc-le-suc h) ∙ rw e
-
--- the name of a terminator, as the code has it
-pub name-at : (t : Terminator) → terminatorNumber t < 23 → part 2 (terminatorNumber t * 2) namesTable ≡ nameOf t
-unfolding nameOf
-name-at t h =
-    let e : 0 + terminatorNumber t * 2 ≡ terminatorNumber t * 2 = omega arith in
-    sym (ap (λ (ps : List (List ℕ)). getD ps (terminatorNumber t) []) names-tied ∙ getD-pairs namesTable 23 0 (terminatorNumber t) h ∙ rw e)
-
--- the test that the search makes at one place
-pub name-test : (t rec : List ℕ) (at i : ℕ) → at ≡ 47 → i < 23 → {r : Bool} → r ≡ equal (part 2 at rec) (part 2 (i * 2) t)
-    → equal (part 2 47 rec) (getD (pairs t 23 0) i []) ≡ r
-name-test t rec at i q h e = let z : 0 + i * 2 ≡ i * 2 = omega arith in rw (getD-pairs t 23 0 i h, z, ← q, e)
+-- the test that the search makes at one name
+pub name-test : (rec name : List ℕ) (at : ℕ) → at ≡ 47 → length name ≡ 2 → {r : Bool} → r ≡ equal (part 2 at rec) (part 2 0 name)
+    → equal (part 2 47 rec) name ≡ r
+name-test rec name at q h e = rw (e, q, name-whole name h)
 
 -- within the order no default is asked for
 pub in-order : (n : ℕ) (d : Terminator) → n < 23 → getD inOrder n d ≡ terminatorAt n
@@ -135,3 +144,69 @@ in-order n d h = getD-any inOrder n d Vr h
 pub past : (n : ℕ) → 23 ≤ n → terminatorAt n ≡ Vr
 unfolding terminatorAt inOrder
 past n h = List·getD-eq-default inOrder Vr h
+
+-- ---- what is found in it
+
+-- the number of a terminator is a place of the list
+pub number-within : (t : Terminator) → terminatorNumber t < 23
+unfolding terminatorOf terminatorNumber
+number-within t = by (decLt place 23)
+  where
+    place : ℕ
+    place = foundAt (nameOf t)
+
+    by : Dec (place < 23) → terminatorNumber t < 23
+    by (yes h) = let e : terminatorNumber t ≡ place = ap terminatorNumber (sym (row-of t .its-name)) ∙ in-place place h .1 in omega arith
+    by (no h) = let e : terminatorNumber t ≡ 22 = ap terminatorNumber (sym (row-of t .its-name) ∙ past place (omega arith)) in omega arith
+
+-- what is found at a place stands there
+stands-there : (f : List ℕ) → foundAt f < 23 → f ≡ getD (texts terminators) (foundAt f) []
+stands-there f h = equal-iff f _ .0 (first-passes (equal f) (texts terminators) [] (rw there-are-23 h))
+
+-- bytes are found at the number of a terminator exactly when they are its name
+pub found-iff : (f : List ℕ) (t : Terminator) → (foundAt f ≡ terminatorNumber t) ↔ (f ≡ nameOf t)
+unfolding nameOf
+found-iff f t = (to, from)
+  where
+    place : ℕ
+    place = foundAt f
+
+    to : place ≡ terminatorNumber t → f ≡ nameOf t
+    to e = stands-there f (omega (arith, number-within t)) ∙ ap (λ (k : ℕ). getD (texts terminators) k []) e
+
+    from : f ≡ nameOf t → place ≡ terminatorNumber t
+    from e = by (decLt (terminatorNumber t) place)
+      where
+        by : Dec (terminatorNumber t < place) → place ≡ terminatorNumber t
+        by (yes k) = absurd (false≢true (sym (first-before (equal f) (texts terminators) [] (terminatorNumber t) k) ∙ equal-iff f (nameOf t) .1 e))
+        by (no k) =
+            let h : place < 23 = omega (arith, number-within t) in
+            once place (terminatorNumber t) h (number-within t) (sym (stands-there f h) ∙ e)
+
+-- the names of the list are those of the terminators, in their order
+names-are : texts terminators ≡ map nameOf inOrder
+unfolding terminators texts codes nameOf terminatorNumber inOrder
+names-are = refl
+
+named-of : (ts : List Terminator) (f : List ℕ) → List·Memᴰ f (map nameOf ts) → (t : Terminator) × (f ≡ nameOf t)
+named-of [] f m = absurd (List·Memᴰ·not-nil m)
+named-of (t ∷ ts) f m = ⊎-elim (λ e. (t, e)) (named-of ts f) (List·Memᴰ·cases-cons m)
+
+-- a name of the list is the name of a terminator
+pub named : (f : List ℕ) → OneOf terminators f → (t : Terminator) × (f ≡ nameOf t)
+named f m = named-of inOrder f (rw names-are at m)
+
+entry-among : (xs : List (List ℕ)) (i : ℕ) → i < length xs → List·Memᴰ (getD xs i []) xs
+entry-among [] i h = absurd (not-suc-le-zero h)
+entry-among (x ∷ xs) zero h = List·Memᴰ·head refl
+entry-among (x ∷ xs) (suc i) h = List·Memᴰ·tail (entry-among xs i (le-of-suc-le-suc h))
+
+-- bytes are found in the list exactly when they are one of the 23 names
+pub recognised-iff : (f : List ℕ) → (foundAt f < 23) ↔ OneOf terminators f
+recognised-iff f = (to, from)
+  where
+    to : foundAt f < 23 → OneOf terminators f
+    to h = Memᴰ·cast (stands-there f h) (entry-among (texts terminators) (foundAt f) (rw there-are-23 h))
+
+    from : OneOf terminators f → foundAt f < 23
+    from m = let r = named f m in omega (arith, found-iff f (r .0) .1 (r .1), number-within (r .0))

@@ -1,11 +1,10 @@
 -- The 23 path terminators: their names, the fields that each needs, which of them end at a fix, which are holdings.
 -- Assumes nothing.
-use Prim.Native.Nat.{ℕ, zero, suc, _+_}
+use Prim.Native.Nat.{ℕ}
 use Prim.Native.String.{String}
 use mathlib.Core.Bool.{Bool, false, _||_}
 use mathlib.Core.List.{List, [], _∷_}
 use lib.ListN.{getD}
-use Rattle.slices.specs.Part.{part}
 use Rattle.slices.specs.Order.{equal}
 use Rattle.slices.specs.Search.{firstAt}
 use Rattle.columns.specs.Patterns.{codes, texts}
@@ -48,14 +47,13 @@ nameOf t = getD (texts terminators) (terminatorNumber t) []
 unfoldable pub terminatorAt : ℕ → Terminator
 terminatorAt n = getD inOrder n Vr
 
+-- where bytes are found in the list of names; past its end where they are none of them
+abbrev pub foundAt : List ℕ → ℕ
+foundAt f = firstAt (equal f) (texts terminators)
+
 -- the terminator of a name, by its place in the list of names
 unfoldable pub terminatorOf : List ℕ → Terminator
-terminatorOf f = terminatorAt (firstAt (equal f) (texts terminators))
-
--- n names of two letters, one after the other, from a place of a table on
-unfoldable pub pairs : List ℕ → ℕ → ℕ → List (List ℕ)
-pairs t zero p = []
-pairs t (suc n) p = part 2 p t ∷ pairs t n (p + 2)
+terminatorOf f = terminatorAt (foundAt f)
 
 -- "Needed fields (our reading of Attachment 5). F fix, N navaid, H theta, R rho, C course, D distance, A first altitude, T turn", and
 -- for RF X arc radius, O centre fix

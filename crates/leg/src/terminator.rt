@@ -6,7 +6,7 @@ ghost use Rattle.slices.specs.Part.{member};
 ghost use Rattle.slices.specs.Order.{equal};
 ghost use Rattle.slices.specs.Search.{firstAt};
 ghost use Rattle.columns.specs.Words.{columns};
-ghost use Rattle.leg.specs.Terminator.{pairs, terminatorNumber, nameOf, terminatorAt, terminatorOf, needed, endsAtFix, isHolding};
+ghost use Rattle.leg.specs.Terminator.{terminatorNumber, nameOf, terminatorAt, terminatorOf, needed, endsAtFix, isHolding};
 use columns::field::Field;
 use slices::copy;
 use slices::has;
@@ -38,8 +38,33 @@ pub enum Terminator {
     Vr,
 }
 
-// For each terminator its two letters.
-const NAMES: [u8; 46] = *b"AFCACDCFCICRDFFAFCFDFMHAHFHMIFPIRFTFVAVDVIVMVR";
+// The one list by which a terminator is recognised: the list of columns/specs/Terminators.antt, line by line, to be laid beside Attachment 5 of the
+// standard. The order is that of its tables 1.3 and 1.5, and beside each name stands its title in 1.4.
+const NAMES: [[u8; 2]; 23] = [
+    *b"AF", // Arc to a Fix (Figure 14)
+    *b"CA", // Course to an Altitude (Figure 9)
+    *b"CD", // Course to a DME Distance (Figure 10)
+    *b"CF", // Course to a Fix (Figure 3)
+    *b"CI", // Course to an Intercept (Figure 11)
+    *b"CR", // Course to a Radial termination (Figure 12)
+    *b"DF", // Direct to a Fix (Figure 4)
+    *b"FA", // Fix to an Altitude (Figure 5)
+    *b"FC", // Track from a Fix from a Distance (Figure 6)
+    *b"FD", // Track from a Fix to a DME Distance (Figure 7)
+    *b"FM", // From a Fix to a Manual termination (Figure 8)
+    *b"HA", // Racetrack Course Reversal, Altitude Termination (Figure 21)
+    *b"HF", // Racetrack Course Reversal, Single circuit terminating at the fix (Figure 21)
+    *b"HM", // Racetrack Course Reversal, Manual Termination (Figure 21)
+    *b"IF", // Initial Fix (Figure 1)
+    *b"PI", // 045/180 Procedure Turn (Figure 20)
+    *b"RF", // Constant Radius Arc (Figure 13)
+    *b"TF", // Track to a Fix (Figure 2)
+    *b"VA", // Heading to an Altitude termination (Figure 15)
+    *b"VD", // Heading to a DME Distance termination (Figure 16)
+    *b"VI", // Heading to an Intercept (Figure 17)
+    *b"VM", // Heading to a Manual termination (Figure 18)
+    *b"VR", // Heading to a Radial termination (Figure 19)
+];
 
 // For each terminator, a line each, the letters of the fields that it needs, and blanks up to eight places.
 const NEEDED: [u8; 184] = *b"\
@@ -72,14 +97,14 @@ const ENDS: [u8; 23] = *b"10010010000111101100000";
 
 const HOLDINGS: [u8; 23] = *b"00000000000111000000000";
 
-// The place of a record's terminator among 23 names of two letters, or 23 where it is none of them.
-fn place_among<'a>(names: &'a [u8], rec: &'a [u8]) -> usize
-    ensures { λ r. ⌜ r ≡ firstAt (equal (columns 48 49 (now (rec .entry)))) (pairs (now (names .entry)) 23 0) ⌝ }
+// The place of a record's terminator in a list of names, or the list's length where it is none of them.
+fn place_among<'a>(names: &'a [[u8; 2]], rec: &'a [u8]) -> usize
+    ensures { λ r. ⌜ r ≡ firstAt (equal (columns 48 49 (now (rec .entry)))) (now (names .entry)) ⌝ }
 {
     let at = Terminator::column() - 1;
     let mut i = 0;
-    while i < 23 {
-        if same(rec, at, names, i * 2, 2) {
+    while i < names.len() {
+        if same(rec, at, &names[i], 0, 2) {
             return i;
         }
         i += 1;
@@ -194,7 +219,7 @@ impl Terminator {
         ensures { λ _. ⌜ now (out .exit) ≡ sets (now (out .entry)) 47 (nameOf self) ⌝ }
     {
         let n = self.number();
-        copy(&NAMES, n * 2, out, Terminator::column() - 1, 2);
+        copy(&NAMES[n], 0, out, Terminator::column() - 1, 2);
     }
 
     // Whether a leg of this kind needs the field of the letter: F fix, T turn, N navaid, X arc radius, H theta, R rho, C course,

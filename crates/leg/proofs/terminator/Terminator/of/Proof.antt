@@ -1,6 +1,8 @@
--- The place of the name in the table is its place in the order. Assumes nothing.
+-- The code's list is the list, so the place of a name in it is its terminator's. Assumes nothing.
 use borrow.Author.Needs.{needs}
-use Rattle.leg.proofs.TerminatorLaws.{namesTable, found}
+use Rattle.columns.specs.Patterns.{codes, texts}
+use Rattle.columns.specs.Terminators.{terminators}
+use Rattle.leg.proofs.TerminatorLaws.{found}
 use Rattle.leg.proofs.terminator.Terminator.of.Statement.{statement}
 use Rattle.leg.proofs.terminator.Terminator.of.Tie as tie
 
@@ -14,7 +16,7 @@ at-requires : tie.Need-at-requires
 at-requires c κs = search needs
 
 returns : tie.Need-returns
-unfolding namesTable
+unfolding terminators texts codes
 returns c = found _ _ (c .before .place-among .ensures) (c .at .ensures)
 
 pub of-spec : {M : Type 1} → statement M

@@ -2,18 +2,21 @@
 use mathlib.Core.Path.{ap}
 use lib.Seq.{sets}
 use borrow.Author.Needs.{needs}
-use Rattle.leg.proofs.TerminatorLaws.{name-at, namesTable}
+use Rattle.columns.specs.Patterns.{codes, texts}
+use Rattle.columns.specs.Terminators.{terminators}
+use Rattle.leg.specs.Terminator.{nameOf}
+use Rattle.leg.proofs.TerminatorLaws.{name-whole, row-of}
 use Rattle.leg.proofs.terminator.Terminator.put.Statement.{statement}
 use Rattle.leg.proofs.terminator.Terminator.put.Tie as tie
 
 number-requires : tie.Need-number-requires
 number-requires c κs = search needs
 
-slice-aggregate-copy : tie.Need-slice-aggregate-copy
-slice-aggregate-copy c = search needs
-
 mul-copy : tie.Need-mul-copy
 mul-copy c = search needs
+
+index-1-copy : tie.Need-index-1-copy
+index-1-copy c = search needs
 
 column-requires : tie.Need-column-requires
 column-requires c κs = search needs
@@ -28,18 +31,19 @@ same-length : tie.Need-same-length
 same-length c = search needs
 
 returns : tie.Need-returns
-unfolding namesTable
+unfolding nameOf terminators texts codes
 returns c =
-    let n = c .before .before .before .before .before .before .number .ensures in
-    rw (c .before .before .copy .ensures, c .before .before .before .column .ensures, n .0) (ap (sets _ 47) (name-at _ (rw (n .0) at n .1)))
+    let before = c .before .before in
+    rw (before .copy .ensures, before .before .column .ensures, before .before .before .before .before .before .number .ensures .0)
+    (ap (sets _ 47) (name-whole (nameOf _) (row-of _ .its-width)))
 
 pub put-spec : {M : Type 1} → statement M
 put-spec =
     tie.close
     (tie.spec
     number-requires
-    slice-aggregate-copy
     mul-copy
+    index-1-copy
     column-requires
     sub-copy
     copy-requires
