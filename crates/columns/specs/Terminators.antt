@@ -1,4 +1,5 @@
--- The 23 path terminators, in the order in which Attachment 5 prints its tables of leg sequences (1.3) and of leg data (1.5).
+-- The 23 path terminators, in the order in which Attachment 5 prints its tables of leg sequences (1.3) and of leg data (1.5), each beside its title
+-- in 1.4. docs/TERMINATORS.md is made from these lines.
 -- Assumes nothing.
 use Prim.Native.String.{String}
 use mathlib.Core.List.{List, [], _∷_}

@@ -126,7 +126,7 @@ pub found : (f : List ℕ) (n : ℕ) {t : Terminator} → n ≡ foundAt f → t 
 unfolding terminatorOf
 found f n e h = h ∙ ap terminatorAt e
 
--- a name of two letters, laid beside two columns
+-- a name of two letters is its first two bytes
 pub name-whole : (name : List ℕ) → length name ≡ 2 → part 2 0 name ≡ name
 name-whole name h = subst (λ (n : ℕ). part n 0 name ≡ name) h (part-all name)
 

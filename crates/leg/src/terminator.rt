@@ -38,8 +38,8 @@ pub enum Terminator {
     Vr,
 }
 
-// The one list by which a terminator is recognised: the list of columns/specs/Terminators.antt, line by line, to be laid beside Attachment 5 of the
-// standard. The order is that of its tables 1.3 and 1.5, and beside each name stands its title in 1.4.
+// The names, in the order of Attachment 5's tables 1.3 and 1.5 and beside their titles in 1.4: the one list by which a terminator is recognised, and
+// line by line that of columns/specs/Terminators.antt.
 const NAMES: [[u8; 2]; 23] = [
     *b"AF", // Arc to a Fix (Figure 14)
     *b"CA", // Course to an Altitude (Figure 9)
