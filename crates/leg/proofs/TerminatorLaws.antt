@@ -126,14 +126,14 @@ pub found : (f : List ℕ) (n : ℕ) {t : Terminator} → n ≡ foundAt f → t 
 unfolding terminatorOf
 found f n e h = h ∙ ap terminatorAt e
 
--- a name of two letters is its first two bytes
-pub name-whole : (name : List ℕ) → length name ≡ 2 → part 2 0 name ≡ name
-name-whole name h = subst (λ (n : ℕ). part n 0 name ≡ name) h (part-all name)
+-- a list is its first bytes, as many as it has
+pub whole : (n : ℕ) (xs : List ℕ) → length xs ≡ n → part n 0 xs ≡ xs
+whole n xs h = subst (λ (m : ℕ). part m 0 xs ≡ xs) h (part-all xs)
 
 -- the test that the search makes at one name
 pub name-test : (rec name : List ℕ) (at : ℕ) → at ≡ 47 → length name ≡ 2 → {r : Bool} → r ≡ equal (part 2 at rec) (part 2 0 name)
     → equal (part 2 47 rec) name ≡ r
-name-test rec name at q h e = rw (e, q, name-whole name h)
+name-test rec name at q h e = rw (e, q, whole 2 name h)
 
 -- within the order no default is asked for
 pub in-order : (n : ℕ) (d : Terminator) → n < 23 → getD inOrder n d ≡ terminatorAt n
@@ -196,17 +196,18 @@ named-of (t ∷ ts) f m = ⊎-elim (λ e. (t, e)) (named-of ts f) (List·Memᴰ�
 pub named : (f : List ℕ) → OneOf terminators f → (t : Terminator) × (f ≡ nameOf t)
 named f m = named-of inOrder f (rw names-are at m)
 
-entry-among : (xs : List (List ℕ)) (i : ℕ) → i < length xs → List·Memᴰ (getD xs i []) xs
-entry-among [] i h = absurd (not-suc-le-zero h)
-entry-among (x ∷ xs) zero h = List·Memᴰ·head refl
-entry-among (x ∷ xs) (suc i) h = List·Memᴰ·tail (entry-among xs i (le-of-suc-le-suc h))
+-- what stands at a place of a list is one of it
+entry-among : {A : Type 0} (xs : List A) (d : A) (i : ℕ) → i < length xs → List·Memᴰ (getD xs i d) xs
+entry-among [] d i h = absurd (not-suc-le-zero h)
+entry-among (x ∷ xs) d zero h = List·Memᴰ·head refl
+entry-among (x ∷ xs) d (suc i) h = List·Memᴰ·tail (entry-among xs d i (le-of-suc-le-suc h))
 
 -- bytes are found in the list exactly when they are one of the 23 names
 pub recognised-iff : (f : List ℕ) → (foundAt f < 23) ↔ OneOf terminators f
 recognised-iff f = (to, from)
   where
     to : foundAt f < 23 → OneOf terminators f
-    to h = Memᴰ·cast (stands-there f h) (entry-among (texts terminators) (foundAt f) (rw there-are-23 h))
+    to h = Memᴰ·cast (stands-there f h) (entry-among (texts terminators) [] (foundAt f) (rw there-are-23 h))
 
     from : OneOf terminators f → foundAt f < 23
     from m = let r = named f m in omega (arith, found-iff f (r .0) .1 (r .1), number-within (r .0))

@@ -5,7 +5,7 @@ use borrow.Author.Needs.{needs}
 use Rattle.columns.specs.Patterns.{codes, texts}
 use Rattle.columns.specs.Terminators.{terminators}
 use Rattle.leg.specs.Terminator.{nameOf}
-use Rattle.leg.proofs.TerminatorLaws.{name-whole, row-of}
+use Rattle.leg.proofs.TerminatorLaws.{row-of, whole}
 use Rattle.leg.proofs.terminator.Terminator.put.Statement.{statement}
 use Rattle.leg.proofs.terminator.Terminator.put.Tie as tie
 
@@ -35,7 +35,7 @@ unfolding nameOf terminators texts codes
 returns c =
     let before = c .before .before in
     rw (before .copy .ensures, before .before .column .ensures, before .before .before .before .before .before .number .ensures .0)
-    (ap (sets _ 47) (name-whole (nameOf _) (row-of _ .its-width)))
+    (ap (sets _ 47) (whole 2 (nameOf _) (row-of _ .its-width)))
 
 pub put-spec : {M : Type 1} → statement M
 put-spec =
