@@ -28,6 +28,7 @@ type Change<'a> = (usize, &'a str);
 pub fn all() -> Vec<Vec<u8>> {
     let mut cases = vec![leg(&[]), continuation(&[])];
     field_limits(&mut cases);
+    cycles(&mut cases);
     route_types(&mut cases);
     terminators(&mut cases);
     companions(&mut cases);
@@ -105,7 +106,7 @@ fn field_limits(cases: &mut Vec<Vec<u8>>) {
         (107, &["A    ", "WH D "]),
         (119, &["  "]),
         (124, &["00000", "99999", "     "]),
-        (129, &["2000", "2001", "2010", "2014", "2020", "0001", "9913"]),
+        (129, &["2000", "2001", "2010", "2020", "0001", "9913"]),
     ];
     for (first, contents) in limits {
         cases.extend(contents.iter().map(|content| leg(&[(*first, content)])));
@@ -113,6 +114,14 @@ fn field_limits(cases: &mut Vec<Vec<u8>>) {
     for (terminator, distance) in [("HM", "T010"), ("HA", "T000"), ("HF", "T999"), ("PI", "T010")] {
         cases.push(leg(&[(48, terminator), (75, distance)]));
     }
+}
+
+/// A fourteenth cycle in the years that have it, in years next to them and in
+/// those that would have it by another count; and a fifteenth.
+fn cycles(cases: &mut Vec<Vec<u8>>) {
+    let of_legs = ["2014", "2015", "2114", "4214", "4314", "6414", "6514", "7614", "9714", "9814", "9914"];
+    cases.extend(of_legs.map(|content| leg(&[(129, content)])));
+    cases.extend(["2014", "2114", "9814"].map(|content| continuation(&[(129, content)])));
 }
 
 /// The codes of departures and arrivals and those next to them; of the
@@ -200,7 +209,6 @@ fn continuations(cases: &mut Vec<Vec<u8>>) {
         (41, &["\u{1f}"]),
         (123, &["\u{7f}"]),
         (124, &["6789 "]),
-        (129, &["0114"]),
     ];
     for (first, contents) in contents {
         cases.extend(contents.iter().map(|content| continuation(&[(*first, content)])));
@@ -213,11 +221,11 @@ fn continuations(cases: &mut Vec<Vec<u8>>) {
 /// Several faults in one record: the first in order wins.
 fn several_faults(cases: &mut Vec<Vec<u8>>) {
     let faults: &[&[Change]] = &[
-        &[(1, "X"), (129, "2014")],
+        &[(1, "X"), (129, "2114")],
         &[(13, "G"), (20, "H")],
         &[(48, "ZZ"), (75, "T010")],
         &[(39, ":"), (40, "X"), (27, "000")],
-        &[(35, "  "), (129, "2014")],
+        &[(35, "  "), (129, "2114")],
         &[(113, "  "), (63, "    ")],
         &[(79, " "), (107, "     ")],
         &[(37, " "), (51, "    ")],

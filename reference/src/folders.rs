@@ -11,6 +11,7 @@ use std::path::Path;
 use std::{fs, io};
 
 use crate::answers::{check_answer, newfile_answer, pick_answer, Inputs, NAMES};
+use crate::file::LINE;
 use crate::pick::{new_file, ROOM};
 use crate::pick_vectors::sum;
 use crate::picks::{all as all_picks, file, full_file, headings, largest, leg, log, put, renewed, Case};
@@ -157,6 +158,7 @@ pub fn all() -> Vec<Folder> {
     folders.extend(bytes_and_line_ends());
     folders.extend(lists());
     folders.extend(refused());
+    folders.extend(cycles());
     folders.extend(large());
     folders
 }
@@ -348,6 +350,30 @@ fn refused() -> Vec<Folder> {
         }
     }
     folders
+}
+
+/// Paper 01's own case with other cycles: one that its year has, throughout, and
+/// one that its year does not have, in the frozen file or in what is put in.
+fn cycles() -> Vec<Folder> {
+    let [frozen, log, want] = pqr();
+    // In lines with a record, behind these first bytes.
+    let with_cycle = |cycle: &str, front: &[u8], bytes: &[u8]| -> Vec<u8> {
+        let lines = bytes.split_inclusive(|byte| *byte == b'\n').map(<[u8]>::to_vec);
+        let changed = lines.map(|mut line| {
+            let end = line.len() - 1;
+            if line.starts_with(front) && line.len() >= LINE {
+                line[end - 4..end].copy_from_slice(cycle.as_bytes());
+            }
+            line
+        });
+        changed.flatten().collect()
+    };
+    let of_2020 = [&frozen, &log].map(|bytes| with_cycle("2014", b"", bytes));
+    vec![
+        folder("cycle 2014", &of_2020[0], &of_2020[1], &want),
+        folder("cycle 2114: frozen.txt", &with_cycle("2114", b"", &frozen), &log, &want),
+        folder("cycle 2114: log.txt", &frozen, &with_cycle("2114", b"A", &log), &want),
+    ]
 }
 
 /// As many corrections and records as there may be, and one more.

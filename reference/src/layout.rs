@@ -1,6 +1,8 @@
 //! The columns of a record: for each field its first and last column and the
 //! test of its content. Columns count from 1, as printed in the layout.
 
+use crate::calendar::cycles;
+
 /// A test of a field's bytes; the whole record is there for the two fields
 /// that depend on another column.
 pub type Test = fn(field: &[u8], record: &[u8]) -> bool;
@@ -80,7 +82,7 @@ pub const CONTINUATION: &[Field] = &[
 /// Columns 124 to 132, the same on both kinds.
 pub const TAIL: &[Field] = &[
     Field(124, 128, |f, _| digits(f)),
-    Field(129, 132, |f, _| digits(f) && (1..=13).contains(&number(&f[2..]))),
+    Field(129, 132, |f, _| digits(f) && (1..=cycles(number(&f[..2]))).contains(&number(&f[2..]))),
 ];
 
 /// The companions: identifier, ICAO code, section, as (first, last) columns.

@@ -3,6 +3,7 @@
 //! and wanted lists, and picks corrections.
 //!
 //! - `layout`: the columns of both kinds of record and what each may hold
+//! - `calendar`: how many cycles a year has
 //! - `judge`: the three stages a record goes through (3, 4, 5)
 //! - `columns`: the worked vectors of the columns, and what this program answers to them
 //! - `parts`: the typed parts of a record
@@ -27,6 +28,7 @@
 //! - `compare`: those, held to what another program answers to them
 
 pub mod answers;
+pub mod calendar;
 pub mod cases;
 pub mod columns;
 pub mod compare;

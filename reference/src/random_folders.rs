@@ -9,7 +9,7 @@ use crate::files::changed;
 use crate::judge::is_continuation;
 use crate::pick::ROOM;
 use crate::picks::{file, full_file, headings, leg, log, put, Case, Record};
-use crate::random_picks::{any_routes, chosen, random_case, spoiled};
+use crate::random_picks::{any_routes, chosen, random_case, spoiled, CYCLES};
 
 /// The folder with this number, counted from 1, of those from this seed. Each is
 /// made by itself, so that one can be made again without the others.
@@ -103,7 +103,7 @@ fn damage_file(dice: &mut Dice, frozen: &mut Vec<u8>) {
     let of_other = frozen[other..other + LINE].to_vec();
     let (first, width) = chosen(dice, &FIELDS);
     let (from, to) = (one + first - 1, one + first - 1 + width);
-    match dice.below(8) {
+    match dice.below(9) {
         0 | 1 => frozen[from..to].fill(b' '),
         2 => {
             let terminator = chosen(dice, &[b"IF", b"TF", b"RF", b"CA", b"HM", b"PI"]);
@@ -120,6 +120,7 @@ fn damage_file(dice: &mut Dice, frozen: &mut Vec<u8>) {
             frozen[other..other + LINE].copy_from_slice(&of_one);
             frozen[one..one + LINE].copy_from_slice(&of_other);
         }
+        7 => frozen[one + 128..one + 132].copy_from_slice(chosen(dice, &CYCLES).as_bytes()),
         _ => frozen.truncate(dice.below(frozen.len())),
     }
 }

@@ -116,6 +116,10 @@ pub(crate) fn spoiled(dice: &mut Dice, route: &[Record]) -> Option<(usize, Recor
 
 // ---- corrections
 
+/// Cycles of years with fourteen and of others, good and bad ones.
+pub(crate) const CYCLES: [&str; 12] =
+    ["2013", "2014", "2015", "2114", "4214", "4314", "6414", "6514", "7614", "9714", "9814", "9914"];
+
 /// A place's record, by places.
 type Standing = BTreeMap<Vec<u8>, Record>;
 
@@ -171,6 +175,16 @@ fn other_leg(dice: &mut Dice, route: &[&Record]) -> Vec<Line> {
     replaced(legs[at], &changed(legs[at], &[(48, name)]))
 }
 
+/// A record with another file record number, one in four with another cycle too,
+/// be it good or bad.
+fn newer(dice: &mut Dice, record: &Record) -> Record {
+    let numbered = changed(record, &[(124, chosen(dice, &["00000", "00001", "00002"]))]);
+    match dice.below(4) {
+        0 => changed(&numbered, &[(129, chosen(dice, &CYCLES))]),
+        _ => numbered,
+    }
+}
+
 /// Lines that apply to what stands.
 fn step(dice: &mut Dice, routes: &[Route], standing: &Standing) -> Vec<Line> {
     let records: Vec<Record> = standing.values().cloned().collect();
@@ -203,8 +217,7 @@ fn step(dice: &mut Dice, routes: &[Route], standing: &Standing) -> Vec<Line> {
         }
         _ => {
             let record = chosen(dice, &records);
-            let newer = changed(&record, &[(124, chosen(dice, &["00000", "00001", "00002"]))]);
-            replaced(&record, &newer)
+            replaced(&record, &newer(dice, &record))
         }
     }
 }

@@ -109,7 +109,7 @@ fn sweep(kind: &str, case: &[u8], column: usize) -> String {
 }
 
 /// The changes of case 1 that are written, in order.
-const LEG_CHANGES: [fn(&mut Frame, &mut Leg); 41] = [
+const LEG_CHANGES: [fn(&mut Frame, &mut Leg); 44] = [
     |_, _| {},
     |frame, _| frame.sequence = 0,
     |frame, _| frame.sequence = 1000,
@@ -134,7 +134,7 @@ const LEG_CHANGES: [fn(&mut Frame, &mut Leg); 41] = [
     |_, leg| leg.speed = Some(1000),
     |_, leg| leg.vertical_angle = Some(VerticalAngle::Down(HundredthsOfDegree(1000))),
     |frame, _| frame.file_record = 100_000,
-    |frame, _| frame.cycle.number = 14,
+    |frame, _| frame.cycle.number = 15,
     |frame, _| frame.cycle.number = 0,
     |frame, _| frame.cycle.year = 100,
     |frame, _| frame.airport = *b" KSE",
@@ -151,14 +151,19 @@ const LEG_CHANGES: [fn(&mut Frame, &mut Leg); 41] = [
     |_, leg| (leg.altitude_description, leg.altitude1, leg.altitude2) = (b'B', None, None),
     |frame, leg| (leg.theta, leg.course, frame.fix) = (Some(TenthsOfDegree(3601)), None, None),
     |frame, _| frame.continuation_number = b'2',
+    |frame, _| frame.cycle = Cycle { year: 20, number: 14 },
+    |frame, _| frame.cycle = Cycle { year: 98, number: 14 },
+    |frame, _| frame.cycle = Cycle { year: 21, number: 14 },
 ];
 
 /// The changes of case 2 that are written, in order.
-const CONTINUATION_CHANGES: [fn(&mut Frame, &mut Continuation); 4] = [
+const CONTINUATION_CHANGES: [fn(&mut Frame, &mut Continuation); 6] = [
     |_, _| {},
     |frame, _| frame.sequence = 0,
     |_, continuation| continuation.bytes[41] = 31,
     |frame, _| frame.continuation_number = b'1',
+    |frame, _| frame.cycle = Cycle { year: 20, number: 14 },
+    |frame, _| frame.cycle = Cycle { year: 21, number: 14 },
 ];
 
 /// A line for each write.

@@ -16,7 +16,7 @@ fn the_proof_gives_what_this_program_answers() {
 
 #[test]
 fn there_are_as_many_as_the_documents_say() {
-    assert_eq!(columns::all().len(), 154);
+    assert_eq!(columns::all().len(), 166);
 }
 
 /// The first columns of the fields that some record of a kind is refused at.

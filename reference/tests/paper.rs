@@ -53,7 +53,9 @@ fn a_needed_altitude() {
 #[test]
 fn cycles() {
     assert_eq!(good(&[(129, "2013")]).0.cycle, Cycle { year: 20, number: 13 });
-    refused(&[(129, "2014")], 3, 129);
+    assert_eq!(good(&[(129, "2014")]).0.cycle, Cycle { year: 20, number: 14 });
+    assert_eq!(good(&[(129, "9814")]).0.cycle, Cycle { year: 98, number: 14 });
+    refused(&[(129, "2114")], 3, 129);
 }
 
 #[test]

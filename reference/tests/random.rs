@@ -1,5 +1,6 @@
 //! The random folders meet what they are there for: routes of every kind that
-//! stand, and legs that may not begin, follow or end, in files and in logs.
+//! stand, and legs that may not begin, follow or end, in files and in logs; and
+//! fourteenth cycles, in years that have one and in others.
 
 mod ways;
 
@@ -41,6 +42,11 @@ fn refused_route(frozen: &[u8], log: &[u8], correction: usize) -> (Vec<u8>, Refu
     refused.next().expect("a route is refused")
 }
 
+/// Whether the record has the number of a fourteenth cycle.
+fn fourteenth(record: &[u8]) -> bool {
+    &record[130..132] == b"14"
+}
+
 /// How often each thing is met.
 fn counts(seed: u64, folders: u64) -> BTreeMap<String, usize> {
     let mut counts = BTreeMap::new();
@@ -49,6 +55,9 @@ fn counts(seed: u64, folders: u64) -> BTreeMap<String, usize> {
         let Inputs { frozen, log, want } = random(seed, number);
         match check(&frozen) {
             Ok(()) => {}
+            Err(Refusal { number: 3, place, column: 129 }) if fourteenth(&frozen[(place - 1) * LINE..]) => {
+                count("file: no fourteenth".to_string());
+            }
             Err(refusal) if refusal.number == 8 => {
                 let (way, row) = way(&frozen, refusal);
                 count(format!("file: {way}"));
@@ -70,6 +79,9 @@ fn counts(seed: u64, folders: u64) -> BTreeMap<String, usize> {
         }
         if let Ok(made) = new_file(&frozen, &log, &numbers(&want), ROOM) {
             count("accepted".to_string());
+            if made.chunks(LINE).any(fourteenth) {
+                count("accepted with a fourteenth".to_string());
+            }
             let rows: BTreeSet<usize> = made.chunks(LINE).map(row).collect();
             rows.iter().for_each(|row| count(format!("accepted with row {row}")));
             let continued = |line: &[u8]| line[38] == b'2';
@@ -86,6 +98,9 @@ fn every_kind_of_route_stands_and_fails_in_every_way() {
     let met = |what: &str| assert!(counts.contains_key(what), "{what} is not met");
     assert!(counts["accepted"] > FOLDERS as usize / 3, "{} are accepted", counts["accepted"]);
     met("log: 11 with 8");
+    met("file: no fourteenth");
+    met("log: 11 with 3");
+    met("accepted with a fourteenth");
     for row in 0..9 {
         met(&format!("accepted with row {row}"));
         met(&format!("accepted with row {row} and continuations"));

@@ -21,7 +21,8 @@ use Rattle.columns.specs.Words.{Front, Leg, Application, Back, PrimaryCo
 use Rattle.columns.proofs.PatternLaws.{says-all, says-among, says-blanks, or-blank}
 use Rattle.columns.proofs.LetterLaws.{continuationNumber, printable}
 use Rattle.columns.proofs.FieldLaws.{says-digits, says-text-of, says-from-one}
-use Rattle.columns.proofs.WordLaws.{says-codes, says-is, says-icao, says-letter, says-letter-digit-blank, says-procedure, says-altitude, says-tenths, says-course, says-vertical, says-cycle, says-route-type, says-distance}
+use Rattle.columns.proofs.CycleLaws.{says-cycle}
+use Rattle.columns.proofs.WordLaws.{says-codes, says-is, says-icao, says-letter, says-letter-digit-blank, says-procedure, says-altitude, says-tenths, says-course, says-vertical, says-route-type, says-distance}
 use Rattle.columns.proofs.RowLaws.{row-says, zero-iff, every-append, tiles-counted}
 use Rattle.columns.proofs.Tiled.{primary-tiles, continuation-tiles}
 

@@ -1,5 +1,7 @@
 -- The theorems about the table of columns, the laws behind them, and one turn of each loop of the matcher.
 pub mod Content
+pub mod CycleLaws
+pub mod CycleMoved
 pub mod FieldLaws
 pub mod LetterLaws
 pub mod PatternLaws
@@ -10,4 +12,5 @@ pub mod Tiled
 pub mod Printable
 pub mod WordLaws
 mod Turns
+mod CalendarVectors
 mod Vectors

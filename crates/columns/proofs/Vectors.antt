@@ -173,10 +173,20 @@ ofBack =
     approach at 124 is "1234 " gives 124 ∷
     approach at 129 is "0001" gives 0 ∷
     approach at 129 is "2013" gives 0 ∷
-    approach at 129 is "2014" gives 129 ∷
+    approach at 129 is "2014" gives 0 ∷
+    approach at 129 is "2015" gives 129 ∷
+    approach at 129 is "2114" gives 129 ∷
+    approach at 129 is "4214" gives 129 ∷
+    approach at 129 is "4314" gives 0 ∷
+    approach at 129 is "6414" gives 129 ∷
+    approach at 129 is "6514" gives 0 ∷
+    approach at 129 is "7614" gives 129 ∷
+    approach at 129 is "9714" gives 129 ∷
+    approach at 129 is "9814" gives 0 ∷
+    approach at 129 is "9914" gives 129 ∷
     approach at 129 is "2000" gives 129 ∷
     approach at 129 is "A001" gives 129 ∷
-    approach at 85 is "-0000" at 63 is "3601" at 129 is "2014" gives 63 ∷
+    approach at 85 is "-0000" at 63 is "3601" at 129 is "2114" gives 63 ∷
     []
 
 -- a continuation
@@ -196,7 +206,9 @@ ofContinuation =
     notes at 13 is "D" gives 20 ∷
     notes at 27 is "000" gives 27 ∷
     notes at 124 is "1234 " gives 124 ∷
-    notes at 129 is "2014" gives 129 ∷
+    notes at 129 is "2014" gives 0 ∷
+    notes at 129 is "9814" gives 0 ∷
+    notes at 129 is "2114" gives 129 ∷
     []
 
 -- slices of any other length and content: a byte that is missing is legal nowhere, and what is past column 132 is not looked at

@@ -10,9 +10,9 @@ use native.Mathlib.Decide.{decLt}
 use lib.ListN.{length}
 use mathlib.Core.Bool.{true}
 use Rattle.columns.specs.Patterns.{codes, each, one, all, _then_, digits, upTo}
-use Rattle.columns.specs.Layout.{icao, letterDigitBlank as letterDigitBlankPatterns, altitude as altitudePatterns, course as coursePatterns, cycle as cyclePatterns}
+use Rattle.columns.specs.Layout.{icao, letterDigitBlank as letterDigitBlankPatterns, altitude as altitudePatterns, course as coursePatterns}
 use Rattle.columns.specs.Rows.{when, always, guarded, rowOk, fieldAt}
-use Rattle.columns.specs.Words.{All, Or, Then, Is, Code, Capital, LetterDigitBlank, LetterOrDigit, TextByte, TextOrBlank, Digits, AtMost, Between, Icao, Procedure, Altitude, Tenths, Course, Cycle, RouteType, Distance}
+use Rattle.columns.specs.Words.{All, Or, Then, Is, Code, Capital, LetterDigitBlank, LetterOrDigit, TextByte, TextOrBlank, Digits, AtMost, Between, Icao, Procedure, Altitude, Tenths, Course, RouteType, Distance}
 use Rattle.digits.specs.Digits.{value}
 use Rattle.columns.proofs.PatternLaws.{Says, reworded, says-or, says-then, says-all, says-text, says-among, or-blank, plains, plain}
 use Rattle.columns.proofs.LetterLaws.{capital, letterDigitBlank, letterOrDigit, textByte, textOrBlank}
@@ -55,38 +55,6 @@ says-course =
 pub says-vertical : Says (one "-" then digits 3) (Then (Is "-") (Digits 3))
 unfolding codes
 says-vertical = says-then (says-is "-" refl) (says-digits 3)
-
--- 01 to 09 and 10 to 13 are 01 to 13
-cycle-in : (f : List ℕ) → Or (Then (Is "0") (Between 1 1 9)) (Then (Is "1") (AtMost 1 3)) f → Between 2 1 13 f
-unfolding codes value
-cycle-in f (inl (g, h, e, q, ((l, r), lo, hi))) =
-    subst (Between 2 1 13) (sym (e ∙ ap (λ (t : List ℕ). t ++ h) q)) ((ap suc l, ((omega arith, omega arith), r)), omega arith, omega arith)
-cycle-in f (inr (g, h, e, q, ((l, r), hi))) =
-    let p : 10 ^ length h ≡ 10 = ap (λ (k : ℕ). 10 ^ k) l in
-    subst (Between 2 1 13) (sym (e ∙ ap (λ (t : List ℕ). t ++ h) q)) ((ap suc l, ((omega arith, omega arith), r)), omega arith, omega arith)
-
-cycle-out : (f : List ℕ) → Between 2 1 13 f → Or (Then (Is "0") (Between 1 1 9)) (Then (Is "1") (AtMost 1 3)) f
-unfolding codes value
-cycle-out [] ((l, r), lo, hi) = absurd (omega arith)
-cycle-out (x ∷ []) ((l, r), lo, hi) = absurd (omega arith)
-cycle-out (x ∷ (y ∷ (z ∷ f))) ((l, r), lo, hi) = absurd (omega arith)
-cycle-out (x ∷ (y ∷ [])) ((l, (hx, (hy, u))), lo, hi) = by (decLt x 49)
-  where
-    by : Dec (x < 49) → Or (Then (Is "0") (Between 1 1 9)) (Then (Is "1") (AtMost 1 3)) (x ∷ (y ∷ []))
-    by (yes h) =
-        let e : x ≡ 48 = omega (arith, hx .0) in
-        inl (x ∷ [], y ∷ [], refl, ap (λ (t : ℕ). t ∷ []) e, ((refl, (hy, tt)), omega (arith, lo), omega (arith, hy .1)))
-    by (no h) =
-        let e : x ≡ 49 = omega (arith, hi) in
-        inr (x ∷ [], y ∷ [], refl, ap (λ (t : ℕ). t ∷ []) e, ((refl, (hy, tt)), omega (arith, hi)))
-
-pub says-cycle : Says cyclePatterns Cycle
-unfolding codes value
-says-cycle =
-    says-then (says-digits 2)
-    (reworded
-    (says-or (says-then (says-is "0" refl) (says-from-one 1 9 refl)) (says-then (says-is "1" refl) (says-up-to (codes "3") ((omega arith, omega arith), tt))))
-    (λ f. (cycle-in f, cycle-out f)))
 
 -- ---- the two fields that look at another column
 

@@ -2,6 +2,7 @@
 -- column c on.
 -- Assumes nothing.
 use Prim.Native.Nat.{ℕ}
+use Prim.Native.String.{String}
 use mathlib.Core.List.{List, [], _∷_, _++_}
 use Rattle.columns.specs.Patterns.{one, each, texts, codes, all, _then_, blanks, orBlank, digits, text, textFrom, upTo, upToCodes, below, notAllZero}
 use Rattle.columns.specs.Terminators.{terminators}
@@ -24,8 +25,16 @@ abbrev pub course : List (List ℕ)
 course = upTo "3600" ++ (upTo "360" then one "T")
 
 -- year, then 01 to 13
+abbrev pub thirteen : List (List ℕ)
+thirteen = digits 2 then ((one "0" then notAllZero 1) ++ (one "1" then upTo "3"))
+
+-- the years with a fourteenth cycle: those that specs/Calendar counts, as `fourteen-iff` proves
+abbrev pub fourteens : List String
+fourteens = "20" ∷ "43" ∷ "65" ∷ "98" ∷ []
+
+-- year, then the number of a cycle of that year
 abbrev pub cycle : List (List ℕ)
-cycle = digits 2 then ((one "0" then notAllZero 1) ++ (one "1" then upTo "3"))
+cycle = thirteen ++ (texts fourteens then one "14")
 
 -- columns 1 to 38, the same in a primary record and in a continuation
 unfoldable pub front : List Row
@@ -103,7 +112,7 @@ application =
 
 -- columns 124 to 132, the same in both
 unfoldable pub back : List Row
-unfolding codes _then_ below upToCodes notAllZero
+unfolding texts codes _then_ below upToCodes notAllZero
 back =
     row 124 5 (digits 5) ∷  -- file record number
     row 129 4 cycle ∷  -- cycle

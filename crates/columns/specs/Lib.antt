@@ -7,5 +7,6 @@ pub mod Fields
 pub mod Layout
 pub mod Kinds
 pub mod Table
+pub mod Calendar
 pub mod Words
 pub mod Samples

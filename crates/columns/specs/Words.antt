@@ -12,6 +12,7 @@ use Rattle.digits.specs.Digits.{value}
 use Rattle.columns.specs.Patterns.{codes, each, texts}
 use Rattle.columns.specs.Rows.{byteIn}
 use Rattle.columns.specs.Terminators.{terminators}
+use Rattle.columns.specs.Calendar.{cyclesIn, yearOf}
 
 -- the columns from one to another, as the paper writes them: 63-66 is `columns 63 66`
 abbrev pub columns : ℕ → ℕ → List ℕ → List ℕ
@@ -110,9 +111,9 @@ Tenths = AtMost 4 3600
 abbrev pub Course : List ℕ → Type 0
 Course = Or Tenths (Then (AtMost 3 360) (Is "T"))
 
--- year, then 01 to 13
+-- two digits of a year, then two of a number from 1 to as many cycles as that year has
 abbrev pub Cycle : List ℕ → Type 0
-Cycle = Then (Digits 2) (Between 2 1 13)
+Cycle f = (g : List ℕ) × (h : List ℕ) × (f ≡ g ++ h) × Digits 2 g × Between 2 1 (cyclesIn (yearOf (value g))) h
 
 -- the codes of 5.7 for that subsection
 abbrev pub RouteType : List ℕ → List ℕ → Type 0

@@ -2,13 +2,12 @@
 -- stated differences. One computed test over each table, and a law that carries it to every cell.
 -- Assumes nothing.
 use mathlib.Core.Path.{_≡_, refl, sym, ap, subst, _∙_}
-use mathlib.Core.Bool.{Bool, true, false, cond, not, _&&_, _||_, or-false, false≢true}
+use mathlib.Core.Bool.{Bool, true, false, cond, not, _&&_, _||_, or-false}
 use mathlib.Core.List.{List, [], _∷_, _++_, map}
-use Prim.Native.Nat.{ℕ, zero, suc, _+_, _-_, _*_, _≤_, _<_}
+use Prim.Native.Nat.{ℕ, _+_, _-_, _*_, _≤_, _<_}
 use Prim.Native.Char.{code}
 use Prim.Native.String.{String}
 use native.Mathlib.Omega.{arith}
-use native.Mathlib.Nat.{le-of-suc-le-suc, not-suc-le-zero}
 use native.Mathlib.Decide.{decLt}
 use lib.Dec.{eqb, ltb}
 use lib.ListN.{length, getD, replicate}
@@ -16,6 +15,7 @@ use borrow.Author.Tests.{eqb-true, eqb-false, ne-eqb, ltb-true}
 use Rattle.slices.specs.Part.{part, member}
 use Rattle.slices.proofs.PartLaws.{member-append, member-replicate}
 use Rattle.slices.proofs.SearchLaws.{first-within}
+use Rattle.slices.proofs.EveryLaws.{every, every-at, each-member, below, each-below}
 use Rattle.slices.proofs.OrderLaws.{equal-iff}
 use Rattle.slices.specs.Order.{order, equal}
 use Rattle.slices.specs.Search.{firstAt}
@@ -32,16 +32,6 @@ use Rattle.routes.specs.Pairs.{isOne, onlyFirst, neverFirst, followsFix,
 
 -- ---- a test over the whole, carried to each
 
-every : {A : Type 0} → (A → Bool) → List A → Bool
-every p [] = true
-every p (x ∷ xs) = p x && every p xs
-
-every-at : {A : Type 0} (p : A → Bool) (xs : List A) (d : A) (i : ℕ) → every p xs ≡ true → i < length xs → p (getD xs i d) ≡ true
-unfolding every
-every-at p [] d i e h = absurd (not-suc-le-zero h)
-every-at p (x ∷ xs) d zero e h = and-left (p x) (every p xs) e
-every-at p (x ∷ xs) d (suc i) e h = every-at p xs d i (and-right (p x) (every p xs) e) (le-of-suc-le-suc h)
-
 -- of all terminators
 module _ (p : Terminator → Bool) (e : every p inOrder ≡ true) where
   at-number : (n : ℕ) → p (terminatorAt n) ≡ true
@@ -55,27 +45,6 @@ module _ (p : Terminator → Bool) (e : every p inOrder ≡ true) where
   each-terminator : (t : Terminator) → p t ≡ true
   unfolding terminatorOf
   each-terminator t = subst (λ (u : Terminator). p u ≡ true) (row-of t .its-name) (at-number (firstAt (equal (nameOf t)) (texts terminators)))
-
--- the numbers below another
-below : ℕ → List ℕ
-below zero = []
-below (suc n) = n ∷ below n
-
-each-below : (p : ℕ → Bool) (m : ℕ) → every p (below m) ≡ true → (n : ℕ) → n < m → p n ≡ true
-unfolding every below
-each-below p zero e n h = absurd (not-suc-le-zero h)
-each-below p (suc m) e n h = by (decLt n m) (λ k. each-below p m (and-right (p m) (every p (below m)) e) n k)
-  where
-    by : Dec (n < m) → (n < m → p n ≡ true) → p n ≡ true
-    by (yes k) f = f k
-    by (no k) f = let q : m ≡ n = omega arith in subst (λ (i : ℕ). p i ≡ true) q (and-left (p m) (every p (below m)) e)
-
-each-member : (p : ℕ → Bool) (xs : List ℕ) → every p xs ≡ true → (b : ℕ) → member b xs ≡ true → p b ≡ true
-unfolding every member
-each-member p [] e b m = absurd (false≢true m)
-each-member p (x ∷ xs) e b m =
-    split (eqb x b) (λ q. subst (λ (y : ℕ). p y ≡ true) (eqb-true x b q) (and-left (p x) (every p xs) e))
-    (λ q. each-member p xs (and-right (p x) (every p xs) e) b (rw q at m))
 
 -- two tests have the same answer
 alike : Bool → Bool → Bool

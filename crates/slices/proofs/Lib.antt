@@ -4,4 +4,5 @@ pub mod PartLaws
 pub mod OrderLaws
 pub mod SearchLaws
 pub mod WriteLaws
+pub mod EveryLaws
 mod Turns

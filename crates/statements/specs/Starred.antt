@@ -10,7 +10,7 @@ use Prim.Native.String.{String}
 use lib.IntN.{ℤ, negsuc}
 use lib.ListN.{length}
 use Rattle.columns.specs.Patterns.{codes}
-use Rattle.columns.specs.Samples.{_at_is_, approach, full}
+use Rattle.columns.specs.Samples.{_at_is_, approach, full, notes}
 use Rattle.refusals.specs.Table.{refusal}
 use Rattle.refusals.specs.declared.Verdict.{Verdict}
 use Rattle.refusals.specs.declared.Verdict.the-variants.{Accepted, Refused}
@@ -121,8 +121,8 @@ log =
 unfoldable pub unended : List ℕ
 unended = line "C" (codes "1") (line "D" (only "P" "0") (line "A" (only "P" "1" at 48 is "VI") []))
 
--- ---- the table: the paper's cases in its order, with the cycles 2013 and 2014, which it does not star; and last legs, in a file and after a
--- correction
+-- ---- the table: the paper's cases in its order, with the cycles, which it does not star, in a leg and in a continuation; and last legs, in a
+-- file and after a correction
 
 unfoldable pub starred : List Row
 starred =
@@ -142,7 +142,12 @@ starred =
     read (full at 48 is "CA" at 85 is "     ") (refused 5 85) ∷
     checked (lines (leg "010" "CA" at 85 is "     " ∷ [])) (Refused (refusal 5 1 85)) ∷
     read (full at 129 is "2013") good ∷
-    read (full at 129 is "2014") (refused 3 129) ∷
+    read (full at 129 is "2014") good ∷
+    read (full at 129 is "9814") good ∷
+    read (full at 129 is "2114") (refused 3 129) ∷
+    read (notes at 129 is "2014") good ∷
+    read (notes at 129 is "9814") good ∷
+    read (notes at 129 is "2114") (refused 3 129) ∷
     pick frozen log (5 ∷ []) (takes (1 ∷ 3 ∷ 5 ∷ []) 3) ∷
     pick frozen log (4 ∷ 4 ∷ []) (takes (2 ∷ 4 ∷ []) 3) ∷
     pick frozen log [] (takes [] 3) ∷

@@ -456,14 +456,19 @@ fn with_record_number(base: Leg, record_number: u32) -> Leg {
     with_tail(base, tail)
 }
 
-fn with_cycle(base: Leg, year: u32, number: u32) -> Leg {
-    let mut tail = base.tail;
+fn tail_of(base: Tail, year: u32, number: u32) -> Tail {
+    let mut tail = base;
     let cycle = Cycle {
         year: year,
         number: number,
     };
     tail.cycle = cycle;
-    with_tail(base, tail)
+    tail
+}
+
+fn with_cycle(base: Leg, year: u32, number: u32) -> Leg {
+    let tail = base.tail;
+    with_tail(base, tail_of(tail, year, number))
 }
 
 // The first record's leg, written with each change.
@@ -590,7 +595,7 @@ fn print_end_writes(leg: Leg) {
     let tail = leg.tail;
     let cycle = tail.cycle;
     try_leg(24, with_record_number(leg, 100000));
-    try_leg(25, with_cycle(leg, cycle.year, 14));
+    try_leg(25, with_cycle(leg, cycle.year, 15));
     try_leg(26, with_cycle(leg, cycle.year, 0));
     try_leg(27, with_cycle(leg, 100, cycle.number));
     try_leg(
@@ -675,6 +680,13 @@ fn print_number_write(base: Leg) {
     try_leg(41, leg);
 }
 
+// A fourteenth cycle, in two years that have it and in one that does not.
+fn print_fourteenth_writes(leg: Leg) {
+    try_leg(42, with_cycle(leg, 20, 14));
+    try_leg(43, with_cycle(leg, 98, 14));
+    try_leg(44, with_cycle(leg, 21, 14));
+}
+
 fn print_leg_writes(leg: Leg) {
     print_number_writes(leg);
     print_distance_writes(leg);
@@ -686,22 +698,32 @@ fn print_leg_writes(leg: Leg) {
     print_both_altitudes_writes(leg);
     print_faults_write(leg);
     print_number_write(leg);
+    print_fourteenth_writes(leg);
+}
+
+fn continuation_with_cycle(base: Continuation, year: u32, number: u32) -> Continuation {
+    let mut continuation = base;
+    let tail = continuation.tail;
+    continuation.tail = tail_of(tail, year, number);
+    continuation
 }
 
 // The second record's parts, written with each change.
 fn print_continuation_writes(base: Continuation, bytes: [u8; 83]) {
-    try_continuation(42, base, bytes);
+    try_continuation(45, base, bytes);
     let mut continuation = base;
     let mut head = continuation.head;
     head.sequence = 0;
     continuation.head = head;
-    try_continuation(43, continuation, bytes);
+    try_continuation(46, continuation, bytes);
     let mut content = bytes;
     content[41] = 31;
-    try_continuation(44, base, content);
+    try_continuation(47, base, content);
     let mut continuation = base;
     continuation.number = b'1';
-    try_continuation(45, continuation, bytes);
+    try_continuation(48, continuation, bytes);
+    try_continuation(49, continuation_with_cycle(base, 20, 14), bytes);
+    try_continuation(50, continuation_with_cycle(base, 21, 14), bytes);
 }
 
 fn print_writes(case: &[u8]) {
