@@ -356,7 +356,7 @@ fn refused() -> Vec<Folder> {
 /// one that its year does not have, in the frozen file or in what is put in.
 fn cycles() -> Vec<Folder> {
     let [frozen, log, want] = pqr();
-    // In lines with a record, behind these first bytes.
+    // In each line that begins so and has a record.
     let with_cycle = |cycle: &str, front: &[u8], bytes: &[u8]| -> Vec<u8> {
         let lines = bytes.split_inclusive(|byte| *byte == b'\n').map(<[u8]>::to_vec);
         let changed = lines.map(|mut line| {

@@ -74,7 +74,12 @@ fn counts(seed: u64, folders: u64) -> BTreeMap<String, usize> {
                 count(format!("log: {way}"));
                 count(format!("log: {way} in row {row}"));
             }
-            Err(Refusal { number: 11, column, .. }) => count(format!("log: 11 with {column}")),
+            Err(Refusal { number: 11, place, column: 3 }) => {
+                let (route, refusal) = refused_route(&frozen, &log, place);
+                if refusal.column == 129 && fourteenth(&route[(refusal.place - 1) * LINE..]) {
+                    count("log: no fourteenth".to_string());
+                }
+            }
             _ => {}
         }
         if let Ok(made) = new_file(&frozen, &log, &numbers(&want), ROOM) {
@@ -99,7 +104,7 @@ fn every_kind_of_route_stands_and_fails_in_every_way() {
     assert!(counts["accepted"] > FOLDERS as usize / 3, "{} are accepted", counts["accepted"]);
     met("log: 11 with 8");
     met("file: no fourteenth");
-    met("log: 11 with 3");
+    met("log: no fourteenth");
     met("accepted with a fourteenth");
     for row in 0..9 {
         met(&format!("accepted with row {row}"));

@@ -1,4 +1,5 @@
--- The table of columns as data, what its rows mean when they are run, what the paper says in words, and sample records.
+-- The table of columns as data, what its rows mean when they are run, what the paper says in words, with the calendar that it speaks of, and
+-- sample records.
 pub mod ByteSets
 pub mod Patterns
 pub mod Terminators
