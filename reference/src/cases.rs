@@ -117,10 +117,12 @@ fn field_limits(cases: &mut Vec<Vec<u8>>) {
 }
 
 /// A fourteenth cycle in the years that have it, in years next to them and in
-/// those that would have it by another count; and a fifteenth.
+/// those that would have it by another count; the one before it, and a fifteenth.
+pub(crate) const CYCLES: [&str; 12] =
+    ["2013", "2014", "2015", "2114", "4214", "4314", "6414", "6514", "7614", "9714", "9814", "9914"];
+
 fn cycles(cases: &mut Vec<Vec<u8>>) {
-    let of_legs = ["2014", "2015", "2114", "4214", "4314", "6414", "6514", "7614", "9714", "9814", "9914"];
-    cases.extend(of_legs.map(|content| leg(&[(129, content)])));
+    cases.extend(CYCLES.map(|content| leg(&[(129, content)])));
     cases.extend(["2014", "2114", "9814"].map(|content| continuation(&[(129, content)])));
 }
 

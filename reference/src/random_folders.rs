@@ -2,14 +2,14 @@
 //! build on each other, wanted lists of all kinds, and damage to each of them.
 
 use crate::answers::Inputs;
-use crate::cases::Dice;
+use crate::cases::{Dice, CYCLES};
 use crate::file::LINE;
 use crate::files;
 use crate::files::changed;
 use crate::judge::is_continuation;
 use crate::pick::ROOM;
 use crate::picks::{file, full_file, headings, leg, log, put, Case, Record};
-use crate::random_picks::{any_routes, chosen, random_case, spoiled, CYCLES};
+use crate::random_picks::{any_routes, chosen, random_case, spoiled};
 
 /// The folder with this number, counted from 1, of those from this seed. Each is
 /// made by itself, so that one can be made again without the others.

@@ -3,7 +3,7 @@
 
 use std::collections::BTreeMap;
 
-use crate::cases::Dice;
+use crate::cases::{Dice, CYCLES};
 use crate::file::{check, kind, terminator};
 use crate::files;
 use crate::files::{changed, Change};
@@ -115,10 +115,6 @@ pub(crate) fn spoiled(dice: &mut Dice, route: &[Record]) -> Option<(usize, Recor
 }
 
 // ---- corrections
-
-/// Cycles of years with fourteen and of others, good and bad ones.
-pub(crate) const CYCLES: [&str; 12] =
-    ["2013", "2014", "2015", "2114", "4214", "4314", "6414", "6514", "7614", "9714", "9814", "9914"];
 
 /// A place's record, by places.
 type Standing = BTreeMap<Vec<u8>, Record>;

@@ -81,26 +81,20 @@ says-fourteens = says-among (texts fourteens) refl
 
 -- the calendar has fourteen cycles in these years, and thirteen in every other
 module _ (g : List ℕ) (d : Digits 2 g) where
-  if-fourteen : fourteen g ≡ true → cyclesIn (yearOf (value g)) ≡ 14
-  if-fourteen t = counted g d ∙ ap (λ (b : Bool). cond b 14 13) t
-
-  if-not : fourteen g ≡ false → cyclesIn (yearOf (value g)) ≡ 13
-  if-not t = counted g d ∙ ap (λ (b : Bool). cond b 14 13) t
+  has : {t : Bool} → fourteen g ≡ t → cyclesIn (yearOf (value g)) ≡ cond t 14 13
+  has e = counted g d ∙ ap (λ (t : Bool). cond t 14 13) e
 
   pub fourteen-iff : (cyclesIn (yearOf (value g)) ≡ 14) ↔ OneOf fourteens g
   fourteen-iff = (
-    λ e. split (fourteen g) (says-fourteens .means g .0) (λ t. absurd (omega (arith, e, if-not t))),
-    λ m. if-fourteen (says-fourteens .means g .1 m),
+    λ e. split (fourteen g) (says-fourteens .means g .0) (λ t. absurd (omega (arith, e, has t))),
+    λ m. has (says-fourteens .means g .1 m),
   )
 
   pub else-thirteen : (OneOf fourteens g → ⊥) → cyclesIn (yearOf (value g)) ≡ 13
-  else-thirteen n = split (fourteen g) (λ t. absurd (n (says-fourteens .means g .0 t))) if-not
+  else-thirteen n = split (fourteen g) (λ t. absurd (n (says-fourteens .means g .0 t))) has
 
-  at-least-thirteen : 13 ≤ cyclesIn (yearOf (value g))
-  at-least-thirteen = split (fourteen g) (λ t. omega (arith, if-fourteen t)) (λ t. omega (arith, if-not t))
-
-  at-most-fourteen : cyclesIn (yearOf (value g)) ≤ 14
-  at-most-fourteen = split (fourteen g) (λ t. omega (arith, if-fourteen t)) (λ t. omega (arith, if-not t))
+  bounds : (13 ≤ cyclesIn (yearOf (value g))) × (cyclesIn (yearOf (value g)) ≤ 14)
+  bounds = split (fourteen g) (λ t. (omega (arith, has t), omega (arith, has t))) (λ t. (omega (arith, has t), omega (arith, has t)))
 
 -- ---- what the field says
 
@@ -160,7 +154,7 @@ is-14 h d v =
 
 cycle-in : (f : List ℕ) → Or Thirteen Fourteenth f → Cycle f
 unfolding codes value
-cycle-in f (inl (g, h, e, d, (b, lo, hi))) = (g, h, e, d, (b, lo, omega (arith, hi, at-least-thirteen g d)))
+cycle-in f (inl (g, h, e, d, (b, lo, hi))) = (g, h, e, d, (b, lo, omega (arith, hi, bounds g d .0)))
 cycle-in f (inr (g, h, e, m, q)) =
     let d : Digits 2 g = two-digits g m in
     let b : Between 2 1 14 h = subst (Between 2 1 14) (sym q) ((refl, ((omega arith, omega arith), ((omega arith, omega arith), tt))), omega arith, omega arith) in
@@ -171,7 +165,7 @@ cycle-out f (g, h, e, d, (b, lo, hi)) = by (decLt 13 (value h))
   where
     by : Dec (13 < value h) → Or Thirteen Fourteenth f
     by (yes k) =
-        let n : cyclesIn (yearOf (value g)) ≡ 14 = omega (arith, at-most-fourteen g d) in
+        let n : cyclesIn (yearOf (value g)) ≡ 14 = omega (arith, bounds g d .1) in
         let v : value h ≡ 14 = omega arith in
         inr (g, h, e, fourteen-iff g d .0 n, is-14 h b v)
     by (no k) = inl (g, h, e, d, (b, lo, omega arith))

@@ -6,7 +6,6 @@ use mathlib.Core.Logic.{_↔_, _⊎_, inl, inr, ⊎-elim}
 use mathlib.Core.Bool.{true, false, false≢true}
 use mathlib.Core.List.{List, [], _∷_, _++_}
 use Prim.Native.Nat.{ℕ}
-use native.Mathlib.Omega.{arith}
 use Rattle.slices.proofs.Cases.{split}
 use Rattle.columns.specs.declared.Kind.{Kind}
 use Rattle.columns.specs.declared.Kind.the-variants.{Primary, Continuation}
@@ -25,17 +24,21 @@ abbrev pub layoutBefore : Kind → List Row
 layoutBefore Primary = front ++ leg ++ backBefore
 layoutBefore Continuation = front ++ application ++ backBefore
 
+abbrev pub firstBadBefore : List ℕ → ℕ
+firstBadBefore rec = firstBad (layoutBefore (kindOf rec)) rec
+
 module _ (rec : List ℕ) where
-  abbrev SameBut : (before now : List Row) → Type 0
-  SameBut before now = (firstBad now rec ≡ firstBad before rec) ⊎ ((firstBad before rec ≡ 129) × (firstBad now rec ≡ 0) × Fourteenth (columns 129 132 rec))
+  -- the answer now is the one before; or it is 0 where it was 129, with 14 behind a year that has it
+  abbrev pub SameBut : (before now : ℕ) → Type 0
+  SameBut before now = (now ≡ before) ⊎ ((before ≡ 129) × (now ≡ 0) × Fourteenth (columns 129 132 rec))
 
   -- rows in front of the others change nothing of this
-  behind : (rows before now : List Row) → SameBut before now → SameBut (rows ++ before) (rows ++ now)
+  behind : (rows before now : List Row) → SameBut (firstBad before rec) (firstBad now rec) → SameBut (firstBad (rows ++ before) rec) (firstBad (rows ++ now) rec)
   unfolding firstOf
   behind [] before now s = s
   behind (r ∷ rows) before now s = split (rowOk r rec) (λ t. rw t (behind rows before now s)) (λ t. rw t (inl refl))
 
-  in-its-row : SameBut (row 129 4 thirteen ∷ []) (row 129 4 cycle ∷ [])
+  in-its-row : SameBut (firstBad (row 129 4 thirteen ∷ []) rec) (firstBad (row 129 4 cycle ∷ []) rec)
   unfolding firstOf
   in-its-row =
       split (rowOk (row 129 4 thirteen) rec)
@@ -53,20 +56,19 @@ module _ (rec : List ℕ) where
       good : (rowOk (row 129 4 cycle) rec ≡ true) ↔ Cycle field
       good = row-says 129 4 rec says-cycle
 
-  at-the-back : SameBut backBefore back
+  at-the-back : SameBut (firstBad backBefore rec) (firstBad back rec)
   unfolding back
   at-the-back = behind (row 124 5 (digits 5) ∷ []) (row 129 4 thirteen ∷ []) (row 129 4 cycle ∷ []) in-its-row
 
-  layouts : (k : Kind) → SameBut (layoutBefore k) (layoutOf k)
+  layouts : (k : Kind) → SameBut (firstBad (layoutBefore k) rec) (firstBad (layoutOf k) rec)
   unfolding layoutOf primary continuation
   layouts Primary = behind (front ++ leg) backBefore back at-the-back
   layouts Continuation = behind (front ++ application) backBefore back at-the-back
 
-  pub same-but : (firstBadField rec ≡ firstBad (layoutBefore (kindOf rec)) rec)
-      ⊎ ((firstBad (layoutBefore (kindOf rec)) rec ≡ 129) × (firstBadField rec ≡ 0) × Fourteenth (columns 129 132 rec))
+  pub same-but : SameBut (firstBadBefore rec) (firstBadField rec)
   unfolding firstBadField
   same-but = layouts (kindOf rec)
 
   -- what was legal stays legal
-  pub stays-good : firstBad (layoutBefore (kindOf rec)) rec ≡ 0 → firstBadField rec ≡ 0
+  pub stays-good : firstBadBefore rec ≡ 0 → firstBadField rec ≡ 0
   stays-good e = ⊎-elim (λ s. s ∙ e) (λ m. m .1) same-but

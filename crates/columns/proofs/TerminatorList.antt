@@ -12,6 +12,7 @@ use Rattle.slices.specs.Order.{order}
 use Rattle.slices.specs.declared.Ordering.{Ordering}
 use Rattle.slices.specs.declared.Ordering.the-variants.{Less, Equal, Greater}
 use Rattle.slices.proofs.Cases.{and-left, and-right}
+use Rattle.slices.proofs.EveryLaws.{every, every-at}
 use Rattle.slices.proofs.OrderLaws.{irreflexive}
 use Rattle.columns.specs.Patterns.{codes, texts}
 use Rattle.columns.specs.Terminators.{terminators}
@@ -27,29 +28,23 @@ less Less e = refl
 less Equal e = absurd (false≢true e)
 less Greater e = absurd (false≢true e)
 
-beforeAll : List ℕ → List (List ℕ) → Bool
-beforeAll x [] = true
-beforeAll x (y ∷ ys) = isLess (order x y) && beforeAll x ys
+before : List ℕ → List ℕ → Bool
+before x y = isLess (order x y)
 
 rising : List (List ℕ) → Bool
 rising [] = true
-rising (x ∷ xs) = beforeAll x xs && rising xs
-
-before-at : (x : List ℕ) (ys : List (List ℕ)) (j : ℕ) → beforeAll x ys ≡ true → j < length ys → order x (getD ys j []) ≡ Less
-unfolding beforeAll
-before-at x [] j e h = absurd (not-suc-le-zero h)
-before-at x (y ∷ ys) zero e h = less (order x y) (and-left (isLess (order x y)) (beforeAll x ys) e)
-before-at x (y ∷ ys) (suc j) e h = before-at x ys j (and-right (isLess (order x y)) (beforeAll x ys) e) (le-of-suc-le-suc h)
+rising (x ∷ xs) = every (before x) xs && rising xs
 
 rising-at : (xs : List (List ℕ)) (i j : ℕ) → rising xs ≡ true → i < j → j < length xs → order (getD xs i []) (getD xs j []) ≡ Less
-unfolding rising
+unfolding rising before
 rising-at [] i j e k h = absurd (not-suc-le-zero h)
 rising-at (x ∷ xs) i zero e k h = absurd (not-suc-le-zero k)
-rising-at (x ∷ xs) zero (suc j) e k h = before-at x xs j (and-left (beforeAll x xs) (rising xs) e) (le-of-suc-le-suc h)
-rising-at (x ∷ xs) (suc i) (suc j) e k h = rising-at xs i j (and-right (beforeAll x xs) (rising xs) e) (le-of-suc-le-suc k) (le-of-suc-le-suc h)
+rising-at (x ∷ xs) zero (suc j) e k h =
+    less (order x (getD xs j [])) (every-at (before x) xs [] j (and-left (every (before x) xs) (rising xs) e) (le-of-suc-le-suc h))
+rising-at (x ∷ xs) (suc i) (suc j) e k h = rising-at xs i j (and-right (every (before x) xs) (rising xs) e) (le-of-suc-le-suc k) (le-of-suc-le-suc h)
 
 list-rises : rising (texts terminators) ≡ true
-unfolding rising beforeAll order terminators texts codes
+unfolding rising every before order terminators texts codes
 list-rises = refl
 
 pub there-are-23 : length (texts terminators) ≡ 23

@@ -1,20 +1,18 @@
 -- What each kind of field says, in the paper's words.
 -- Assumes nothing.
-use mathlib.Core.Path.{_≡_, refl, sym, ap, subst, _∙_}
-use mathlib.Core.Logic.{_↔_, inl, inr}
-use mathlib.Core.List.{List, [], _∷_, _++_}
-use Prim.Native.Nat.{ℕ, suc, _^_, _<_}
+use mathlib.Core.Path.{_≡_, refl}
+use mathlib.Core.Logic.{_↔_}
+use mathlib.Core.List.{List, _++_}
+use Prim.Native.Nat.{ℕ}
 use Prim.Native.String.{String}
 use native.Mathlib.Omega.{arith}
-use native.Mathlib.Decide.{decLt}
-use lib.ListN.{length}
 use mathlib.Core.Bool.{true}
 use Rattle.columns.specs.Patterns.{codes, each, one, all, _then_, digits, upTo}
 use Rattle.columns.specs.Layout.{icao, letterDigitBlank as letterDigitBlankPatterns, altitude as altitudePatterns, course as coursePatterns}
 use Rattle.columns.specs.Rows.{when, always, guarded, rowOk, fieldAt}
-use Rattle.columns.specs.Words.{All, Or, Then, Is, Code, Capital, LetterDigitBlank, LetterOrDigit, TextByte, TextOrBlank, Digits, AtMost, Between, Icao, Procedure, Altitude, Tenths, Course, RouteType, Distance}
+use Rattle.columns.specs.Words.{All, Then, Is, Code, Capital, LetterDigitBlank, LetterOrDigit, TextByte, TextOrBlank, Digits, Icao, Procedure, Altitude, Tenths, Course, RouteType, Distance}
 use Rattle.digits.specs.Digits.{value}
-use Rattle.columns.proofs.PatternLaws.{Says, reworded, says-or, says-then, says-all, says-text, says-among, or-blank, plains, plain}
+use Rattle.columns.proofs.PatternLaws.{Says, says-or, says-then, says-all, says-text, says-among, or-blank, plains, plain}
 use Rattle.columns.proofs.LetterLaws.{capital, letterDigitBlank, letterOrDigit, textByte, textOrBlank}
 use Rattle.columns.proofs.FieldLaws.{says-digits, says-up-to, says-from-one}
 use Rattle.columns.proofs.RowLaws.{when-says, always-says, either-says}

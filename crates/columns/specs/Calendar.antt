@@ -1,5 +1,5 @@
--- The calendar, and how many cycles a year has. A cycle begins every 28 days, one of them on 1 January 1998, and belongs to the year that
--- it begins in. Days are counted from 1 January 1900, which is day 0: no year that two digits name is earlier.
+-- The calendar, and how many cycles a year has, beside the words of request 2026-01. Days are counted from 1 January 1900, which is day 0:
+-- no year that two digits name is earlier.
 -- Assumes nothing.
 use Prim.Native.Nat.{ℕ, zero, suc, _+_, _-_, _%_}
 use mathlib.Core.Bool.{Bool, cond, not, _&&_, _||_}
@@ -24,7 +24,8 @@ daysOf (suc years) = daysOf years + daysIn (1900 + years)
 unfoldable pub newYear : ℕ → ℕ
 newYear year = daysOf (year - 1900)
 
--- whether a cycle begins on a day: it is a whole number of times 28 days before or after 1 January 1998
+-- "28-day cycles", "cycle 9801 began on 1 January 1998": whether one begins on a day, which is a whole number of times 28 days before or
+-- after that one
 unfoldable pub begins : ℕ → Bool
 begins day = eqb (day % 28) (newYear 1998 % 28)
 
@@ -33,9 +34,10 @@ unfoldable pub beginning : ℕ → ℕ → ℕ
 beginning day zero = 0
 beginning day (suc n) = cond (begins day) 1 0 + beginning (day + 1) n
 
+-- "a cycle belongs to the year it begins in"
 unfoldable pub cyclesIn : ℕ → ℕ
 cyclesIn year = beginning (newYear year) (daysIn year)
 
--- the year that two digits name: 80 to 99 are 1980 to 1999, and 00 to 79 are 2000 to 2079
+-- "Years 80 to 99 are 1980 to 1999, and 00 to 79 are 2000 to 2079"
 unfoldable pub yearOf : ℕ → ℕ
 yearOf digits = cond (ltb digits 80) (2000 + digits) (1900 + digits)

@@ -9,14 +9,15 @@ use Prim.Native.Char.{code}
 use Prim.Native.Nat.{ℕ, zero, suc, _+_, _*_, _-_, _≤_, _<_}
 use native.Mathlib.Omega.{arith}
 use native.Mathlib.Decide.{decLt}
-use native.Mathlib.Nat.{le-of-suc-le-suc, not-suc-le-zero, zero-add}
+use native.Mathlib.Nat.{le-of-suc-le-suc, not-suc-le-zero}
 use lib.Dec.{eqb}
 use lib.ListN.{length, getD, replicate, List·getD-eq-default}
 use borrow.Author.Tests.{eqb-true, eqb-false}
 use Rattle.slices.specs.Part.{part, member}
 use Rattle.slices.specs.Order.{order, equal}
 use Rattle.slices.specs.Search.{firstAt}
-use Rattle.slices.proofs.Cases.{split, and-left, and-right}
+use Rattle.slices.proofs.Cases.{split}
+use Rattle.slices.proofs.EveryLaws.{every, below, each-below}
 use Rattle.slices.proofs.OrderLaws.{equal-iff}
 use Rattle.slices.proofs.PartLaws.{getD-any, part-all, member-append, member-replicate}
 use Rattle.slices.proofs.SearchLaws.{first-before, first-passes}
@@ -98,27 +99,19 @@ row-needs t b =
 
 -- ---- the list
 
--- numbers that count up from k on
-counts : ℕ → List Terminator → Bool
-counts k [] = true
-counts k (t ∷ ts) = eqb (terminatorNumber t) k && counts (suc k) ts
+-- each terminator has the number of its place
+abbrev numbered : ℕ → Bool
+numbered i = eqb (terminatorNumber (terminatorAt i)) i
 
-counts-at : (k : ℕ) (ts : List Terminator) (i : ℕ) → counts k ts ≡ true → i < length ts → terminatorNumber (getD ts i Vr) ≡ k + i
-unfolding counts
-counts-at k [] i e h = absurd (not-suc-le-zero h)
-counts-at k (t ∷ ts) zero e h = omega (arith, eqb-true (terminatorNumber t) k (and-left (eqb (terminatorNumber t) k) (counts (suc k) ts) e))
-counts-at k (t ∷ ts) (suc i) e h =
-    omega (arith, counts-at (suc k) ts i (and-right (eqb (terminatorNumber t) k) (counts (suc k) ts) e) (le-of-suc-le-suc h))
-
-order-counts : counts 0 inOrder ≡ true
-unfolding counts inOrder terminatorNumber
-order-counts = refl
+all-numbered : every numbered (below 23) ≡ true
+unfolding every below terminatorAt inOrder terminatorNumber
+all-numbered = refl
 
 -- entry i of the list is the name of terminator i, and its number is i
 pub in-place : (i : ℕ) → i < 23 → (getD (texts terminators) i [] ≡ nameOf (terminatorAt i)) × (terminatorNumber (terminatorAt i) ≡ i)
-unfolding nameOf terminatorAt inOrder
+unfolding nameOf
 in-place i h =
-    let n : terminatorNumber (terminatorAt i) ≡ i = counts-at 0 inOrder i order-counts h ∙ zero-add i in
+    let n : terminatorNumber (terminatorAt i) ≡ i = eqb-true (terminatorNumber (terminatorAt i)) i (each-below numbered 23 all-numbered i h) in
     (ap (λ (k : ℕ). getD (texts terminators) k []) (sym n), n)
 
 -- what is found at a place of the list is the terminator of that place
