@@ -1,10 +1,10 @@
 //! The stored set of records: one good record of each kind, every field at its
-//! limits, every terminator, companions, faults side by side, cut records and
-//! damage at random places.
+//! limits, content that goes wrong at a later byte, every terminator, companions,
+//! faults side by side, cut records and damage at random places.
 
 use std::collections::HashSet;
 
-use crate::layout::{needed_columns, CENTRE, FIX, NAVAID, TERMINATORS};
+use crate::layout::{each_terminator, needed_columns, CENTRE, FIX, NAVAID};
 
 /// Case 1: a good primary record with every field filled.
 pub const LEG: &str = concat!(
@@ -29,6 +29,7 @@ pub fn all() -> Vec<Vec<u8>> {
     let mut cases = vec![leg(&[]), continuation(&[])];
     field_limits(&mut cases);
     cycles(&mut cases);
+    bad_bytes(&mut cases);
     route_types(&mut cases);
     terminators(&mut cases);
     companions(&mut cases);
@@ -126,6 +127,33 @@ fn cycles(cases: &mut Vec<Vec<u8>>) {
     cases.extend(["2014", "2114", "9814"].map(|content| continuation(&[(129, content)])));
 }
 
+/// Contents of every kind that can't go on at some byte, most of them not at their
+/// first: too short, with a blank inside, past a limit, of no form.
+fn bad_bytes(cases: &mut Vec<Vec<u8>>) {
+    let contents: &[(usize, &[&str])] = &[
+        (2, &["A 1", "a  ", "A b"]),
+        (11, &["K "]),
+        (14, &["ILS16/"]),
+        (27, &[" 10", "10 ", "0A0"]),
+        (30, &[" A   "]),
+        (48, &["CX", "C ", "XF"]),
+        (51, &["I  A"]),
+        (63, &["36 0", "3700", "4000"]),
+        (67, &[" 060"]),
+        (71, &["37 T"]),
+        (81, &[" A"]),
+        (85, &["1500 ", "FL18 ", "FX180"]),
+        (86, &["\0"]),
+        (121, &["  A"]),
+        (129, &["201 ", "A001"]),
+    ];
+    for (first, contents) in contents {
+        cases.extend(contents.iter().map(|content| leg(&[(*first, content)])));
+    }
+    cases.extend(["TT10", "T01 "].map(|distance| leg(&[(48, "HM"), (75, distance)])));
+    cases.push(continuation(&[(61, "\u{1f}")]));
+}
+
 /// The codes of departures and arrivals and those next to them; of the
 /// approaches the sweep of case 1 has every one.
 fn route_types(cases: &mut Vec<Vec<u8>>) {
@@ -144,11 +172,6 @@ fn group(letter: char) -> Vec<(usize, usize)> {
         'c' => CENTRE.to_vec(),
         _ => vec![needed_columns(letter)],
     }
-}
-
-/// The 23 terminators, each with the letters of its needed fields.
-fn each_terminator() -> impl Iterator<Item = (&'static str, &'static str)> {
-    TERMINATORS.iter().flat_map(|(names, needed)| names.split(' ').map(move |name| (name, *needed)))
 }
 
 /// Each terminator with everything filled, with only what it needs, and with

@@ -1,25 +1,30 @@
 //! The worked vectors of the columns, and what this program says of them: the
-//! kind of each record, and its leftmost field that holds nothing legal.
+//! kind of each record, its leftmost field that holds nothing legal, and the byte
+//! of that field at which no legal content can go on.
 //!
 //! The records are those that the proof of the columns computes, as its text and
 //! that of its sample records have them: `NAME`, `[]` or `codes "TEXT"`, with `at COLUMN is "TEXT"` and
 //! `at COLUMN holds BYTE` behind it, `take N` in front, `++ codes "TEXT"` at the
-//! end. The answer that stands there behind `gives` decides nothing here; the
-//! tests hold it to the judgement.
+//! end. The answer that stands there behind `gives`, a column for both or one for
+//! the field and behind `byte` one for the byte, decides nothing here; the tests
+//! hold it to the judgement.
 
 use std::collections::HashMap;
 
-use crate::judge::{first_bad, is_continuation};
+use crate::judge::{bad_byte, first_bad, is_continuation};
 use crate::Stored;
 
 const SAMPLES: &str = include_str!("../../crates/columns/specs/Samples.antt");
 const PROOF: &str = include_str!("../../crates/columns/proofs/Vectors.antt");
 
-/// A record, and the answer that the proof gives it.
+/// A record, and the two answers that the proof gives it.
 pub struct Vector {
     pub record: Vec<u8>,
-    pub proved: usize,
+    pub proved: Columns,
 }
+
+/// The first column of the bad field, and the column of the bad byte; 0 for none.
+pub type Columns = (usize, usize);
 
 /// The records, a line each, and the answers.
 pub fn stored_files() -> [Stored; 2] {
@@ -34,7 +39,13 @@ pub fn stored_files() -> [Stored; 2] {
 
 fn answer(record: &[u8]) -> String {
     let kind = if is_continuation(record) { "continuation" } else { "primary" };
-    format!("{kind}\t{}\n", first_bad(record).unwrap_or(0))
+    let (field, byte) = answered(record);
+    format!("{kind}\t{field}\t{byte}\n")
+}
+
+/// What this program answers.
+pub fn answered(record: &[u8]) -> Columns {
+    (first_bad(record).unwrap_or(0), bad_byte(record).unwrap_or(0))
 }
 
 pub fn all() -> Vec<Vector> {
@@ -44,7 +55,7 @@ pub fn all() -> Vec<Vector> {
     for line in SAMPLES.lines().chain(PROOF.lines()) {
         if let Some((text, proved)) = line.strip_suffix(" ∷").and_then(|line| line.rsplit_once(" gives ")) {
             let record = record(&words(text), &named).unwrap_or_else(|| panic!("no record: {text}"));
-            let proved = proved.parse().unwrap_or_else(|_| panic!("no answer: {proved}"));
+            let proved = columns(proved).unwrap_or_else(|| panic!("no answer: {proved}"));
             vectors.push(Vector { record, proved });
             continue;
         }
@@ -56,6 +67,12 @@ pub fn all() -> Vec<Vector> {
         }
     }
     vectors
+}
+
+/// The two columns that an answer stands for.
+fn columns(proved: &str) -> Option<Columns> {
+    let (field, byte) = proved.split_once(" byte ").unwrap_or((proved, proved));
+    Some((field.parse().ok()?, byte.parse().ok()?))
 }
 
 /// The words of a record's text; what stands between quotes is one of them.

@@ -180,6 +180,7 @@ pub fn all() -> Vec<Vec<u8>> {
     several_faults(&mut files);
     cuts(&mut files);
     damaged(&mut files);
+    bad_bytes(&mut files);
     files
 }
 
@@ -523,6 +524,22 @@ fn damaged(files: &mut Vec<Vec<u8>>) {
             };
             record[at] = LIKELY[dice.below(LIKELY.len())];
         }
+        files.push(records.concat());
+    }
+}
+
+/// Content that goes wrong at a later byte of its field, in a leg and in a
+/// continuation.
+fn bad_bytes(files: &mut Vec<Vec<u8>>) {
+    let contents = [(2, "A 1"), (27, "01 "), (48, "CX"), (71, "361T"), (85, "1500 "), (129, "2114")];
+    for change in contents {
+        let mut records = legs(5);
+        records[1] = changed(&records[1], &[change]);
+        files.push(records.concat());
+    }
+    for change in [(83, "\u{1f}"), (128, " ")] {
+        let mut records = five();
+        records[2] = changed(&records[2], &[change]);
         files.push(records.concat());
     }
 }

@@ -12,6 +12,7 @@ use std::{fs, io};
 
 use crate::answers::{check_answer, newfile_answer, pick_answer, Inputs, NAMES};
 use crate::file::LINE;
+use crate::files::changed;
 use crate::pick::{new_file, ROOM};
 use crate::pick_vectors::sum;
 use crate::picks::{all as all_picks, file, full_file, headings, largest, leg, log, put, renewed, Case};
@@ -160,6 +161,7 @@ pub fn all() -> Vec<Folder> {
     folders.extend(refused());
     folders.extend(cycles());
     folders.extend(large());
+    folders.extend(bad_bytes());
     folders
 }
 
@@ -388,5 +390,18 @@ fn large() -> Vec<Folder> {
         folder("479 records and one put in", &file(&full[..479]), &one_more, b"1\n"),
         folder("480 records and one put in", &file(&full), &one_more, b"1\n"),
         folder("the largest pick", &largest, &lines, &listed(&wanted)),
+    ]
+}
+
+/// Paper 01's own case with an altitude that is a digit short, in the second
+/// record of the frozen file or in the first that is put in.
+fn bad_bytes() -> Vec<Folder> {
+    let [frozen, log, want] = pqr();
+    // Behind a heading, a D line, an A and a tab.
+    let put_in = "C\t1\n".len() + "D\t".len() + LINE + "A\t".len();
+    let short = |bytes: &[u8], record: usize| changed(bytes, &[(record + 85, "1500 ")]);
+    vec![
+        folder("1500 and a blank: frozen.txt", &short(&frozen, LINE), &log, &want),
+        folder("1500 and a blank: log.txt", &frozen, &short(&log, put_in), &want),
     ]
 }

@@ -1,6 +1,6 @@
 //! One record alone: from its 133 bytes to parts, and from parts to 133 bytes.
 
-use crate::judge::judge;
+use crate::judge::{judge, judge_parts};
 use crate::layout::continues;
 use crate::parts::{Continuation, Frame, Leg, Parts};
 use crate::Refusal;
@@ -26,7 +26,7 @@ pub fn read(bytes: &[u8]) -> Result<Parts, Refusal> {
 }
 
 /// Writes parts as one record with its line feed; what was put together is
-/// judged by its columns.
+/// judged by its columns, and a field that is bad is named by its first.
 pub fn write(parts: &Parts) -> Result<[u8; 133], Refusal> {
     let mut record = [b' '; 133];
     record[4] = b'P';
@@ -47,7 +47,7 @@ pub fn write(parts: &Parts) -> Result<[u8; 133], Refusal> {
     if continues(frame.continuation_number) != numbered {
         record[38] = 0;
     }
-    match judge(&record[..132]) {
+    match judge_parts(&record[..132]) {
         Ok(()) => Ok(record),
         Err((number, column)) => Err(Refusal { number, place: 0, column }),
     }

@@ -109,7 +109,7 @@ fn sweep(kind: &str, case: &[u8], column: usize) -> String {
 }
 
 /// The changes of case 1 that are written, in order.
-const LEG_CHANGES: [fn(&mut Frame, &mut Leg); 44] = [
+const LEG_CHANGES: [fn(&mut Frame, &mut Leg); 45] = [
     |_, _| {},
     |frame, _| frame.sequence = 0,
     |frame, _| frame.sequence = 1000,
@@ -154,6 +154,7 @@ const LEG_CHANGES: [fn(&mut Frame, &mut Leg); 44] = [
     |frame, _| frame.cycle = Cycle { year: 20, number: 14 },
     |frame, _| frame.cycle = Cycle { year: 98, number: 14 },
     |frame, _| frame.cycle = Cycle { year: 21, number: 14 },
+    |frame, _| frame.cycle.number = 100,
 ];
 
 /// The changes of case 2 that are written, in order.

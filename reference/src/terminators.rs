@@ -20,8 +20,8 @@ pub fn stored_files() -> [Stored; 2] {
 
 /// A line for each pair that is accepted: its bytes, its number in the list and
 /// the name that the leg has when it is written again. A line for each that is
-/// refused otherwise than by 3 at column 48. And how many are accepted, and how
-/// many refused there.
+/// refused otherwise than by 3 at column 48, so at 49 where a terminator begins
+/// with its first byte. And how many are accepted, and how many refused at 48.
 fn answers() -> Vec<u8> {
     let mut lines = Vec::new();
     let (mut accepted, mut refused) = (0, 0);

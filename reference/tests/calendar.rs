@@ -57,8 +57,14 @@ fn every_content_on_both_kinds() {
             let mut record = base.as_bytes()[..132].to_vec();
             record[128..].copy_from_slice(format!("{content:04}").as_bytes());
             let (year, number) = (content / 100, content % 100);
-            let legal = (1..=13).contains(&number) || number == 14 && [20, 43, 65, 98].contains(&year);
-            assert_eq!(judge(&record), if legal { Ok(()) } else { Err((3, 129)) }, "{content:04}");
+            let expected = match number {
+                1..=13 => Ok(()),
+                14 if [20, 43, 65, 98].contains(&year) => Ok(()),
+                // No number of a cycle begins so.
+                20.. => Err((3, 131)),
+                _ => Err((3, 132)),
+            };
+            assert_eq!(judge(&record), expected, "{content:04}");
         }
     }
 }

@@ -10,13 +10,13 @@ use reference::layout::{Field, CONTINUATION, HEAD, PRIMARY, TAIL};
 #[test]
 fn the_proof_gives_what_this_program_answers() {
     for (number, vector) in (1..).zip(columns::all()) {
-        assert_eq!(first_bad(&vector.record).unwrap_or(0), vector.proved, "vector {number}");
+        assert_eq!(columns::answered(&vector.record), vector.proved, "vector {number}");
     }
 }
 
 #[test]
 fn there_are_as_many_as_the_documents_say() {
-    assert_eq!(columns::all().len(), 166);
+    assert_eq!(columns::all().len(), 184);
 }
 
 /// The first columns of the fields that some record of a kind is refused at.

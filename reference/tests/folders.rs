@@ -81,15 +81,23 @@ fn the_requirement_prints_exactly_this() {
     assert_eq!(text(newfile_answer(&inputs)), "no\t12\t1\t0\n");
 }
 
+/// The check of the stored folder with this name.
+fn check_of(name: &str) -> String {
+    let folder = all().into_iter().find(|folder| folder.name == name).expect("a folder of that name");
+    text(check_answer(&folder.inputs()))
+}
+
 #[test]
 fn a_file_from_the_end_of_2020() {
-    let check = |name: &str| {
-        let folder = all().into_iter().find(|folder| folder.name == name).expect("a folder of that name");
-        text(check_answer(&folder.inputs()))
-    };
-    assert_eq!(check("cycle 2014"), "ok\t3\t5\n");
-    assert_eq!(check("cycle 2114: frozen.txt"), "no\t3\t1\t129\n");
-    assert_eq!(check("cycle 2114: log.txt"), "no\t11\t1\t3\n");
+    assert_eq!(check_of("cycle 2014"), "ok\t3\t5\n");
+    assert_eq!(check_of("cycle 2114: frozen.txt"), "no\t3\t1\t132\n");
+    assert_eq!(check_of("cycle 2114: log.txt"), "no\t11\t1\t3\n");
+}
+
+#[test]
+fn the_bad_byte_in_a_file_and_the_number_in_a_log() {
+    assert_eq!(check_of("1500 and a blank: frozen.txt"), "no\t3\t2\t89\n");
+    assert_eq!(check_of("1500 and a blank: log.txt"), "no\t11\t1\t3\n");
 }
 
 /// The lines of the last correction: the record taken out and the one put in.

@@ -27,16 +27,16 @@ fn refused(changes: &[(usize, &str)], number: u8, column: usize) {
 fn altitudes() {
     assert_eq!(good(&[(85, "FL180")]).1.altitude1, Some(Altitude::Level(FlightLevel(180))));
     assert_eq!(good(&[(85, "-0120")]).1.altitude1, Some(Altitude::Below(Feet(120))));
-    refused(&[(85, "-0000")], 3, 85);
-    refused(&[(85, " 1500")], 3, 85);
+    refused(&[(85, "-0000")], 3, 89);
+    refused(&[(85, " 1500")], 3, 86);
 }
 
 #[test]
 fn courses() {
     assert_eq!(good(&[(71, "3600")]).1.course, Some(Course::Magnetic(TenthsOfDegree(3600))));
-    refused(&[(71, "3601")], 3, 71);
+    refused(&[(71, "3601")], 3, 74);
     assert_eq!(good(&[(71, "360T")]).1.course, Some(Course::True(WholeDegrees(360))));
-    refused(&[(71, "361T")], 3, 71);
+    refused(&[(71, "361T")], 3, 73);
 }
 
 #[test]
@@ -55,14 +55,15 @@ fn cycles() {
     assert_eq!(good(&[(129, "2013")]).0.cycle, Cycle { year: 20, number: 13 });
     assert_eq!(good(&[(129, "2014")]).0.cycle, Cycle { year: 20, number: 14 });
     assert_eq!(good(&[(129, "9814")]).0.cycle, Cycle { year: 98, number: 14 });
-    refused(&[(129, "2114")], 3, 129);
+    refused(&[(129, "2114")], 3, 132);
 }
 
 #[test]
 fn a_missing_byte_is_legal_nowhere() {
     let whole = record(&[]);
     assert_eq!(judge(&whole[..132]), Ok(()));
-    assert_eq!(judge(&whole[..131]), Err((3, 129)));
+    assert_eq!(judge(&whole[..131]), Err((3, 132)));
+    assert_eq!(judge(&whole[..128]), Err((3, 129)));
     assert_eq!(judge(&whole[..38]), Err((3, 39)));
     assert_eq!(judge(&[]), Err((3, 1)));
 }

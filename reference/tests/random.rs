@@ -1,6 +1,7 @@
 //! The random folders meet what they are there for: routes of every kind that
-//! stand, and legs that may not begin, follow or end, in files and in logs; and
-//! fourteenth cycles, in years that have one and in others.
+//! stand, and legs that may not begin, follow or end, in files and in logs;
+//! fourteenth cycles, in years that have one and in others; and content that goes
+//! wrong at a later byte of its field.
 
 mod ways;
 
@@ -8,6 +9,7 @@ use std::collections::{BTreeMap, BTreeSet};
 
 use reference::answers::Inputs;
 use reference::file::{check, LINE};
+use reference::layout::{CONTINUATION, HEAD, PRIMARY, TAIL};
 use reference::pick::{check_log, new_file, ROOM};
 use reference::random_folders::random;
 use reference::wanted::numbers;
@@ -47,6 +49,11 @@ fn fourteenth(record: &[u8]) -> bool {
     &record[130..132] == b"14"
 }
 
+/// Whether a field of either kind of record begins in this column.
+fn begins_a_field(column: usize) -> bool {
+    [HEAD, PRIMARY, CONTINUATION, TAIL].into_iter().flatten().any(|field| field.0 == column)
+}
+
 /// How often each thing is met.
 fn counts(seed: u64, folders: u64) -> BTreeMap<String, usize> {
     let mut counts = BTreeMap::new();
@@ -54,9 +61,12 @@ fn counts(seed: u64, folders: u64) -> BTreeMap<String, usize> {
     for number in 1..=folders {
         let Inputs { frozen, log, want } = random(seed, number);
         match check(&frozen) {
-            Ok(()) => {}
-            Err(Refusal { number: 3, place, column: 129 }) if fourteenth(&frozen[(place - 1) * LINE..]) => {
+            Ok(()) => count("file: accepted".to_string()),
+            Err(Refusal { number: 3, place, column: 132 }) if fourteenth(&frozen[(place - 1) * LINE..]) => {
                 count("file: no fourteenth".to_string());
+            }
+            Err(Refusal { number: 3, column, .. }) if !begins_a_field(column) => {
+                count(format!("file: later byte {column}"));
             }
             Err(refusal) if refusal.number == 8 => {
                 let (way, row) = way(&frozen, refusal);
@@ -76,7 +86,7 @@ fn counts(seed: u64, folders: u64) -> BTreeMap<String, usize> {
             }
             Err(Refusal { number: 11, place, column: 3 }) => {
                 let (route, refusal) = refused_route(&frozen, &log, place);
-                if refusal.column == 129 && fourteenth(&route[(refusal.place - 1) * LINE..]) {
+                if refusal.column == 132 && fourteenth(&route[(refusal.place - 1) * LINE..]) {
                     count("log: no fourteenth".to_string());
                 }
             }
@@ -106,6 +116,9 @@ fn every_kind_of_route_stands_and_fails_in_every_way() {
     met("file: no fourteenth");
     met("log: no fourteenth");
     met("accepted with a fourteenth");
+    let later_bytes = counts.keys().filter(|what| what.starts_with("file: later byte")).count();
+    assert!(later_bytes >= 8, "{later_bytes} columns within fields are met");
+    assert!(counts["file: accepted"] > FOLDERS as usize / 2);
     for row in 0..9 {
         met(&format!("accepted with row {row}"));
         met(&format!("accepted with row {row} and continuations"));

@@ -55,7 +55,7 @@ module _ (rec : List ℕ) where
       row-says 11 2 rec says-icao ⊗
       row-says 13 1 rec (says-codes "DEF" refl) ⊗
       row-says 14 6 rec says-procedure ⊗
-      says-route-type rec ⊗
+      says-route-type rec (columns 20 20 rec) ⊗
       row-says 21 5 rec (or-blank 5 (says-text-of 4)) ⊗
       row-says 26 1 rec (says-blanks 1) ⊗
       row-says 27 3 rec (says-from-one 3 999 refl) ⊗
@@ -111,7 +111,7 @@ module _ (rec : List ℕ) where
       row-says 63 4 rec (or-blank 4 says-tenths) ⊗
       row-says 67 4 rec (or-blank 4 (says-digits 4)) ⊗
       row-says 71 4 rec (or-blank 4 says-course) ⊗
-      says-distance rec ⊗
+      says-distance rec (columns 75 78 rec) ⊗
       row-says 79 1 rec (or-blank 1 says-letter) ⊗
       row-says 80 1 rec says-letter-digit-blank ⊗
       row-says 81 2 rec (says-blanks 2) ⊗

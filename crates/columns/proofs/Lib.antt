@@ -1,4 +1,6 @@
 -- The theorems about the table of columns, the laws behind them, and one turn of each loop of the matcher.
+pub mod BadByte
+mod CompletedRecord
 pub mod Content
 pub mod CycleLaws
 pub mod CycleMoved
@@ -6,6 +8,9 @@ pub mod FieldLaws
 pub mod LetterLaws
 pub mod PatternLaws
 pub mod RowLaws
+pub mod ShortFields
+mod SightLaws
+pub mod StopLaws
 pub mod TerminatorList
 pub mod Tied
 pub mod Tiled

@@ -14,14 +14,14 @@ use Rattle.slices.proofs.Cases.{split, and-left, and-right, either}
 use Rattle.slices.proofs.PartLaws.{length-part, getD-part}
 use Rattle.columns.specs.ByteSets.{Range, ByteSet, byteSets, within, inRanges, fitsOf, fits}
 use Rattle.columns.specs.Patterns.{fitsAll}
-use Rattle.columns.specs.Rows.{Alternative, Row, stands, fieldAt, rowOk, EveryRow, Tiles}
+use Rattle.columns.specs.Rows.{Alternative, Row, stands, fieldAt, rowOk, EveryRow}
 use Rattle.columns.specs.Layout.{primary, continuation}
 use Rattle.columns.specs.Kinds.{kindOf, layoutOf, firstBadField}
 use Rattle.columns.specs.Words.{Printable, Each}
 use Rattle.columns.specs.declared.Kind.{Kind}
 use Rattle.columns.specs.declared.Kind.the-variants.{Primary, Continuation}
 use Rattle.columns.proofs.RowLaws.{matched, zero-iff, tiles-counted, no-gap}
-use Rattle.columns.proofs.Tiled.{primary-tiles, continuation-tiles}
+use Rattle.columns.proofs.Tiled.{layout-tiles}
 
 printable-within : (lo hi b : ℕ) → 32 ≤ lo → hi ≤ 126 → within lo hi b ≡ true → Printable b
 printable-within lo hi b l h e =
@@ -117,11 +117,6 @@ layout-shown : (k : Kind) → shownRows (layoutOf k) ≡ true
 unfolding layoutOf primary continuation
 layout-shown Primary = refl
 layout-shown Continuation = refl
-
-layout-tiles : (k : Kind) → Tiles 1 (layoutOf k) 132
-unfolding layoutOf
-layout-tiles Primary = primary-tiles
-layout-tiles Continuation = continuation-tiles
 
 pub printable-columns : (rec : List ℕ) → firstBadField rec ≡ 0 → (i : ℕ) → i < 132 → Printable (getD rec i 0)
 unfolding firstBadField

@@ -1,7 +1,7 @@
 -- What a row says of its field, what the answer of a walk over rows means, and what side by side means.
 -- Assumes nothing.
-use mathlib.Core.Path.{_≡_, refl, sym, ap, _∙_}
-use mathlib.Core.Logic.{_↔_, _⊎_, ⊎-elim}
+use mathlib.Core.Path.{_≡_, refl, sym, ap, subst, _∙_}
+use mathlib.Core.Logic.{_↔_, _⊎_, inl, inr, ⊎-elim}
 use mathlib.Core.Bool.{Bool, true, _&&_, _||_, false≢true, or-assoc, and-or-distrib-left, and-false}
 use mathlib.Core.List.{List, [], _∷_, _++_, List·Memᴰ, List·Memᴰ·head, List·Memᴰ·tail}
 use Prim.Native.Nat.{ℕ, _+_, _≤_, _<_}
@@ -12,7 +12,7 @@ use borrow.Author.Tests.{ne-eqb}
 use Rattle.slices.proofs.Cases.{split, both, and-left, and-right, either, or-left, or-right, or-iff}
 use Rattle.columns.specs.ByteSets.{fits}
 use Rattle.columns.specs.Patterns.{fitsAll, anyOf}
-use Rattle.columns.specs.Rows.{Alternative, Row, row, always, when, byteIn, stands, alternativeOk, matches, fieldAt, rowOk, firstOf, firstBad, EveryRow, Leftmost, here, there, Tiles}
+use Rattle.columns.specs.Rows.{Alternative, Row, row, always, when, byteIn, stands, alternativeOk, matches, fieldAt, rowOk, firstOf, columnOf, firstBad, EveryRow, Leftmost, here, there, Wide, Tiles}
 use Rattle.columns.proofs.PatternLaws.{Says, plain-iff}
 
 -- ---- one row
@@ -89,20 +89,24 @@ abbrev pub Counted : List Row → Type 0
 Counted [] = Unit {0}
 Counted (r ∷ rs) = (1 ≤ r .column) × Counted rs
 
--- the answer 0: every field's bytes match one of its patterns
-zero-every : (rs : List Row) (rec : List ℕ) → Counted rs → firstBad rs rec ≡ 0 → EveryRow rs rec
-unfolding firstOf
-zero-every [] rec p e = tt
-zero-every (r ∷ rs) rec p e =
-    split (rowOk r rec) (λ t. (t, zero-every rs rec (p .1) (rw t at e))) (λ t. let z : r .column ≡ 0 = rw t at e in absurd (omega (arith, p .0)))
+-- the answer 0, whatever is answered of a row, if that is at its first column or behind it: every field's bytes match one of its patterns
+module _ (f : Row → List ℕ → ℕ) (rec : List ℕ) (behind : (r : Row) → r .column ≤ f r rec) where
+  zero-every : (rs : List Row) → Counted rs → firstOf f rs rec ≡ 0 → EveryRow rs rec
+  unfolding firstOf
+  zero-every [] p e = tt
+  zero-every (r ∷ rs) p e =
+      split (rowOk r rec) (λ t. (t, zero-every rs (p .1) (rw t at e))) (λ t. let z : f r rec ≡ 0 = rw t at e in absurd (omega (arith, p .0, behind r)))
 
-every-zero : (rs : List Row) (rec : List ℕ) → EveryRow rs rec → firstBad rs rec ≡ 0
-unfolding firstOf
-every-zero [] rec h = refl
-every-zero (r ∷ rs) rec h = rw (h .0) (every-zero rs rec (h .1))
+  every-zero : (rs : List Row) → EveryRow rs rec → firstOf f rs rec ≡ 0
+  unfolding firstOf
+  every-zero [] h = refl
+  every-zero (r ∷ rs) h = rw (h .0) (every-zero rs (h .1))
+
+  pub answer-zero-iff : (rs : List Row) → Counted rs → (firstOf f rs rec ≡ 0) ↔ EveryRow rs rec
+  answer-zero-iff rs p = (zero-every rs p, every-zero rs)
 
 pub zero-iff : (rs : List Row) (rec : List ℕ) → Counted rs → (firstBad rs rec ≡ 0) ↔ EveryRow rs rec
-zero-iff rs rec p = (zero-every rs rec p, every-zero rs rec)
+zero-iff rs rec = answer-zero-iff columnOf rec (λ r. omega arith) rs
 
 -- any other answer: the first column of the leftmost field that matches none
 first-leftmost : (rs : List Row) (rec : List ℕ) (c : ℕ) → 1 ≤ c → firstBad rs rec ≡ c → Leftmost rec c rs
@@ -126,6 +130,10 @@ every-append (r ∷ xs) ys rec = (
   λ h. (h .0 .0, every-append xs ys rec .1 (h .0 .1, h .1)),
 )
 
+pub every-from : (rs : List Row) (rec : List ℕ) → ((r : Row) → List·Memᴰ r rs → rowOk r rec ≡ true) → EveryRow rs rec
+every-from [] rec h = tt
+every-from (r ∷ rs) rec h = (h r (List·Memᴰ·head refl), every-from rs rec (λ q m. h q (List·Memᴰ·tail m)))
+
 -- ---- side by side
 
 pub tiles-counted : (rs : List Row) (from end : ℕ) → 1 ≤ from → Tiles from rs end → Counted rs
@@ -145,21 +153,40 @@ no-gap (r ∷ rs) from end t c h k = by (decLt c (from + r .width)) (λ l. no-ga
     by (yes l) later = (r, List·Memᴰ·head refl, (omega (arith, t .0), omega (arith, t .0)))
     by (no n) later = let s = later (omega arith) in (s .0, List·Memᴰ·tail (s .1), s .2)
 
-after : (rs : List Row) (from end : ℕ) → Tiles from rs end → (r : Row) → List·Memᴰ r rs → from ≤ r .column
+reaches : (rs : List Row) (from end : ℕ) → Tiles from rs end → from ≤ end + 1
+reaches [] from end t = omega (arith, t)
+reaches (r ∷ rs) from end t = let l : from + r .width ≤ end + 1 = reaches rs (from + r .width) end (t .3) in omega arith
+
+-- no row begins before the first column
+pub after : (rs : List Row) (from end : ℕ) → Tiles from rs end → (r : Row) → List·Memᴰ r rs → from ≤ r .column
 after (q ∷ rs) from end t r (List·Memᴰ·head e) = let c : r .column ≡ q .column = ap (λ (x : Row). x .column) e in omega (arith, t .0)
 after (q ∷ rs) from end t r (List·Memᴰ·tail m) = let l : from + q .width ≤ r .column = after rs (from + q .width) end (t .3) r m in omega arith
 
+-- none goes past the last column
+pub within : (rs : List Row) (from end : ℕ) → Tiles from rs end → (r : Row) → List·Memᴰ r rs → r .column + r .width ≤ end + 1
+within (q ∷ rs) from end t r (List·Memᴰ·head e) =
+    let l : from + q .width ≤ end + 1 = reaches rs (from + q .width) end (t .3) in
+    subst (λ (x : Row). x .column + x .width ≤ end + 1) (sym e) (omega (arith, t .0, l))
+within (q ∷ rs) from end t r (List·Memᴰ·tail m) = within rs (from + q .width) end (t .3) r m
+
+-- every pattern is as wide as its row
+pub as-wide : (rs : List Row) (from end : ℕ) → Tiles from rs end → (r : Row) → List·Memᴰ r rs → Wide (r .width) (r .alternatives)
+as-wide (q ∷ rs) from end t r (List·Memᴰ·head e) = subst (λ (x : Row). Wide (x .width) (x .alternatives)) (sym e) (t .2)
+as-wide (q ∷ rs) from end t r (List·Memᴰ·tail m) = as-wide rs (from + q .width) end (t .3) r m
+
+-- of two rows one is the other, or stands before it, or behind it
+pub apart : (rs : List Row) (from end : ℕ) → Tiles from rs end → (q r : Row) → List·Memᴰ q rs → List·Memᴰ r rs
+    → (q ≡ r) ⊎ (q .column + q .width ≤ r .column) ⊎ (r .column + r .width ≤ q .column)
+apart (x ∷ rs) from end t q r (List·Memᴰ·head e) (List·Memᴰ·head f) = inl (e ∙ sym f)
+apart (x ∷ rs) from end t q r (List·Memᴰ·head e) (List·Memᴰ·tail n) =
+    let l : from + x .width ≤ r .column = after rs (from + x .width) end (t .3) r n in
+    inr (inl (subst (λ (y : Row). y .column + y .width ≤ r .column) (sym e) (omega (arith, t .0))))
+apart (x ∷ rs) from end t q r (List·Memᴰ·tail m) (List·Memᴰ·head f) =
+    let l : from + x .width ≤ q .column = after rs (from + x .width) end (t .3) q m in
+    inr (inr (subst (λ (y : Row). y .column + y .width ≤ q .column) (sym f) (omega (arith, t .0))))
+apart (x ∷ rs) from end t q r (List·Memᴰ·tail m) (List·Memᴰ·tail n) = apart rs (from + x .width) end (t .3) q r m n
+
 -- two rows that cover one column are one row
 pub no-overlap : (rs : List Row) (from end : ℕ) → Tiles from rs end → (c : ℕ) (q r : Row) → List·Memᴰ q rs → List·Memᴰ r rs → Covers q c → Covers r c → q ≡ r
-no-overlap (x ∷ rs) from end t c q r (List·Memᴰ·head e) (List·Memᴰ·head f) u v = e ∙ sym f
-no-overlap (x ∷ rs) from end t c q r (List·Memᴰ·head e) (List·Memᴰ·tail n) u v =
-    let l : from + x .width ≤ r .column = after rs (from + x .width) end (t .3) r n in
-    let a : q .column ≡ x .column = ap (λ (y : Row). y .column) e in
-    let b : q .width ≡ x .width = ap (λ (y : Row). y .width) e in
-    absurd (omega (arith, t .0, u .1, v .0))
-no-overlap (x ∷ rs) from end t c q r (List·Memᴰ·tail m) (List·Memᴰ·head f) u v =
-    let l : from + x .width ≤ q .column = after rs (from + x .width) end (t .3) q m in
-    let a : r .column ≡ x .column = ap (λ (y : Row). y .column) f in
-    let b : r .width ≡ x .width = ap (λ (y : Row). y .width) f in
-    absurd (omega (arith, t .0, v .1, u .0))
-no-overlap (x ∷ rs) from end t c q r (List·Memᴰ·tail m) (List·Memᴰ·tail n) u v = no-overlap rs (from + x .width) end (t .3) c q r m n u v
+no-overlap rs from end t c q r m n u v =
+    ⊎-elim (λ e. e) (⊎-elim (λ h. absurd (omega (arith, h, u .1, v .0))) (λ h. absurd (omega (arith, h, u .0, v .1)))) (apart rs from end t q r m n)

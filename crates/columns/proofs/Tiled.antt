@@ -1,7 +1,7 @@
 -- The rows of each layout tile columns 1 to 132: side by side, without gap or overlap, every pattern as wide as its row.
 -- Assumes nothing.
 use mathlib.Core.Path.{_≡_, refl}
-use mathlib.Core.List.{List, [], _∷_, List·Memᴰ}
+use mathlib.Core.List.{List, [], _∷_, _++_, List·Memᴰ, append-assoc}
 use Prim.Native.Nat.{ℕ, _≤_, _+_}
 use mathlib.Core.Bool.{Bool, true, _&&_}
 use lib.Dec.{eqb, leb}
@@ -9,7 +9,10 @@ use lib.ListN.{length}
 use borrow.Author.Tests.{eqb-true, leb-true}
 use Rattle.slices.proofs.Cases.{and-left, and-right}
 use Rattle.columns.specs.Rows.{Alternative, Row, Wide, Tiles}
-use Rattle.columns.specs.Layout.{primary, continuation}
+use Rattle.columns.specs.Layout.{front, leg, application, back, primary, continuation}
+use Rattle.columns.specs.Kinds.{layoutOf}
+use Rattle.columns.specs.declared.Kind.{Kind}
+use Rattle.columns.specs.declared.Kind.the-variants.{Primary, Continuation}
 use Rattle.columns.proofs.RowLaws.{Covers, no-gap, no-overlap}
 
 -- the test that is computed over a whole layout, and what it means
@@ -44,6 +47,30 @@ primary-tiles = tiles-means 1 primary 132 refl
 pub continuation-tiles : Tiles 1 continuation 132
 unfolding continuation
 continuation-tiles = tiles-means 1 continuation 132 refl
+
+pub layout-tiles : (k : Kind) → Tiles 1 (layoutOf k) 132
+unfolding layoutOf
+layout-tiles Primary = primary-tiles
+layout-tiles Continuation = continuation-tiles
+
+-- columns 1 to 38, which the two have alike, and what each has behind them
+pub front-tiles : Tiles 1 front 38
+unfolding front
+front-tiles = tiles-means 1 front 38 refl
+
+unfoldable pub behindFront : Kind → List Row
+behindFront Primary = leg ++ back
+behindFront Continuation = application ++ back
+
+pub behind-front-tiles : (k : Kind) → Tiles 39 (behindFront k) 132
+unfolding behindFront leg application back
+behind-front-tiles Primary = tiles-means 39 (leg ++ back) 132 refl
+behind-front-tiles Continuation = tiles-means 39 (application ++ back) 132 refl
+
+pub front-first : (k : Kind) → layoutOf k ≡ front ++ behindFront k
+unfolding layoutOf primary continuation behindFront
+front-first Primary = append-assoc front leg back
+front-first Continuation = append-assoc front application back
 
 -- so each column from 1 to 132 is in exactly one row
 module _ (rs : List Row) (t : Tiles 1 rs 132) (c : ℕ) where

@@ -1,17 +1,19 @@
 -- One turn of each loop of the matcher, as an equation between what is left to do before it and after it.
 -- Assumes nothing.
-use mathlib.Core.Path.{_≡_, _∙_}
+use mathlib.Core.Path.{_≡_, sym, _∙_}
 use mathlib.Core.Bool.{Bool, true, false, cond, _&&_, _||_}
-use mathlib.Core.List.{List}
-use Prim.Native.Nat.{ℕ, _+_, _*_, _-_, _<_, _≤_}
+use mathlib.Core.List.{List, [], _∷_}
+use Prim.Native.Nat.{ℕ, suc, _+_, _*_, _-_, _<_, _≤_, suc-le-suc, max}
 use native.Mathlib.Omega.{arith}
-use native.Mathlib.Nat.{sub-zero, mul-le-mul-left}
-use lib.ListN.{getD}
+use native.Mathlib.Nat.{sub-zero, zero-add, zero-max, mul-le-mul-left}
+use lib.ListN.{getD, length}
 use Rattle.slices.specs.Part.{part}
-use Rattle.slices.proofs.PartLaws.{one-less, part-next, part-done, part-whole}
+use Rattle.slices.proofs.Cases.{split}
+use Rattle.slices.proofs.PartLaws.{one-less, length-part, part-next, part-done, part-whole}
 use Rattle.columns.specs.ByteSets.{fits}
 use Rattle.columns.specs.Patterns.{fitsAll}
-use Rattle.columns.specs.Rows.{Row, stands, alternativeOk, matches, rowOk, firstOf}
+use Rattle.columns.specs.Rows.{Alternative, Row, stands, alternativeOk, matches, rowOk, firstOf}
+use Rattle.columns.specs.Stops.{run, runOf, longest, stopOf}
 use Rattle.columns.specs.Table.{alternativeAt, alternativesAt, rowAt, rowsAt, decode}
 
 -- a row's alternatives take at most this much of a table
@@ -42,6 +44,30 @@ module _ (t rec : List ℕ) (w p at k : ℕ) (h : k < w) {c b : ℕ} {r : Bool}
   pub letters-stop : r ≡ false → lettersLeft t rec w p at k ≡ false
   letters-stop e = letters-step ∙ rw e
 
+-- how far the bytes go along it
+pub runLeft : List ℕ → List ℕ → ℕ → ℕ → ℕ → ℕ → ℕ
+runLeft t rec w p at k = run (part (w - k) (p + k) t) (part (w - k) (at + k) rec)
+
+pub run-start : (t rec : List ℕ) (w p at : ℕ) → run (part w p t) (part w at rec) ≡ 0 + runLeft t rec w p at 0
+unfolding runLeft
+run-start t rec w p at = rw (part-whole w p t, part-whole w at rec, zero-add)
+
+module _ (t rec : List ℕ) (w p at k : ℕ) {x : ℕ} (i : x ≡ k + runLeft t rec w p at k) where
+  pub run-end : w ≤ k → k ≡ x
+  unfolding runLeft run
+  run-end h = let z : runLeft t rec w p at k ≡ 0 = rw (part-done w p t k h) in omega arith
+
+  module _ (h : k < w) {c b : ℕ} {r : Bool} (hc : c ≡ getD t (p + k) 0) (hb : b ≡ getD rec (at + k) 0) (hr : r ≡ fits c b) where
+    run-step : runLeft t rec w p at k ≡ cond r (suc (runLeft t rec w p at (k + 1))) 0
+    unfolding runLeft run
+    run-step = rw (part-next w p t k h, part-next w at rec k h, ← hc, ← hb, hr)
+
+    pub run-go : r ≡ true → x ≡ k + 1 + runLeft t rec w p at (k + 1)
+    run-go e = let s : runLeft t rec w p at k ≡ suc (runLeft t rec w p at (k + 1)) = run-step ∙ rw e in omega arith
+
+    pub run-stop : r ≡ false → k ≡ x
+    run-stop e = let s : runLeft t rec w p at k ≡ 0 = run-step ∙ rw e in omega arith
+
 -- an alternative is its pattern where its guard stands, and nothing where it does not
 module _ (t rec : List ℕ) (at p w : ℕ) {x y : ℕ} {g : Bool} (hx : x ≡ getD t p 0) (hy : y ≡ getD t (p + 1) 0) (hg : g ≡ stands x y rec) where
   guard : stands (getD t p 0) (getD t (p + 1) 0) rec ≡ g
@@ -52,6 +78,12 @@ module _ (t rec : List ℕ) (at p w : ℕ) {x y : ℕ} {g : Bool} (hx : x ≡ ge
 
   pub guard-failed : g ≡ false → false ≡ alternativeOk (alternativeAt t w p) rec (part w at rec)
   guard-failed e = rw (guard, e)
+
+  pub run-stood : {r : ℕ} → g ≡ true → r ≡ run (part w (p + 2) t) (part w at rec) → r ≡ runOf (alternativeAt t w p) rec (part w at rec)
+  run-stood e h = rw (guard, e) h
+
+  pub run-failed : g ≡ false → 0 ≡ runOf (alternativeAt t w p) rec (part w at rec)
+  run-failed e = rw (guard, e)
 
 -- the alternatives of a row, of which j are passed, the next one at p
 pub alternativesLeft : List ℕ → List ℕ → ℕ → ℕ → ℕ → ℕ → ℕ → Bool
@@ -77,6 +109,53 @@ module _ (t rec : List ℕ) (at n w p j : ℕ) (h : j < n) {r : Bool}
   pub alternatives-found : r ≡ true → alternativesLeft t rec at n w p j ≡ true
   alternatives-found e = alternatives-step ∙ rw e
 
+-- the furthest that one of them goes
+pub longestLeft : List ℕ → List ℕ → ℕ → ℕ → ℕ → ℕ → ℕ → ℕ
+longestLeft t rec at n w p j = longest (alternativesAt t (n - j) w p) rec (part w at rec)
+
+pub longest-start : (t rec : List ℕ) (at n w p : ℕ) → longest (alternativesAt t n w p) rec (part w at rec) ≡ max 0 (longestLeft t rec at n w p 0)
+unfolding longestLeft
+longest-start t rec at n w p = rw (sub-zero, zero-max)
+
+module _ (t rec : List ℕ) (at n w p j best : ℕ) {x : ℕ} (i : x ≡ max best (longestLeft t rec at n w p j)) where
+  pub longest-end : n ≤ j → best ≡ x
+  unfolding longestLeft alternativesAt longest
+  longest-end h = let e : n - j ≡ 0 = omega arith in let z : longestLeft t rec at n w p j ≡ 0 = rw e in omega arith
+
+  longest-step : j < n → {r : ℕ} → r ≡ runOf (alternativeAt t w p) rec (part w at rec)
+      → longestLeft t rec at n w p j ≡ max r (longestLeft t rec at n w (p + 2 + w) (j + 1))
+  unfolding longestLeft alternativesAt longest
+  longest-step h hr = rw (one-less n j h, hr)
+
+  pub longest-go : j < n → {r next : ℕ} → r ≡ runOf (alternativeAt t w p) rec (part w at rec) → next ≡ max best r
+      → x ≡ max next (longestLeft t rec at n w (p + 2 + w) (j + 1))
+  longest-go h hr hn = omega (arith, longest-step h hr)
+
+-- what a row answers that is aimed at by the byte
+pub stop-at : (t rec : List ℕ) (p at : ℕ) {w n r : ℕ} → w ≡ getD t p 0 → n ≡ getD t (p + 1) 0
+    → r ≡ longest (alternativesAt t n w (p + 2)) rec (part w at rec) → at + 1 + r ≡ stopOf (rowAt t p at) rec
+stop-at t rec p at hw hn hr = let e : at + 1 - 1 ≡ at = omega arith in cc
+
+within-suc : (t : Bool) {m n : ℕ} → m ≤ n → cond t (suc m) 0 ≤ suc n
+within-suc true h = suc-le-suc h
+within-suc false h = omega arith
+
+run-within : (p f : List ℕ) → run p f ≤ length f
+unfolding run
+run-within [] f = omega arith
+run-within (c ∷ p) [] = omega arith
+run-within (c ∷ p) (b ∷ f) = within-suc (fits c b) (run-within p f)
+
+longest-within : (alts : List Alternative) (rec f : List ℕ) → longest alts rec f ≤ length f
+unfolding longest
+longest-within [] rec f = omega arith
+longest-within (a ∷ alts) rec f =
+    split (stands (a .guard) (a .holds) rec) (λ e. rw e (omega (arith, run-within (a .letters) f, longest-within alts rec f)))
+    (λ e. rw e (omega (arith, longest-within alts rec f)))
+
+pub longest-fits : (alts : List Alternative) (rec : List ℕ) (w at : ℕ) {r : ℕ} → r ≡ longest alts rec (part w at rec) → r ≤ w
+longest-fits alts rec w at e = omega (arith, longest-within alts rec (part w at rec), length-part w at rec)
+
 -- the rows of a table, of which i are passed, the next one at p and its field at index `at`
 pub rowsLeft : (Row → List ℕ → ℕ) → List ℕ → List ℕ → ℕ → ℕ → ℕ → ℕ → ℕ
 rowsLeft f t rec rows p at i = firstOf f (rowsAt t (rows - i) p at) rec
@@ -101,5 +180,5 @@ module _ (f : Row → List ℕ → ℕ) (t rec : List ℕ) (rows p at i : ℕ) (
   pub rows-go : r ≡ true → rowsLeft f t rec rows p at i ≡ rowsLeft f t rec rows (p + 2 + n * (w + 2)) (at + w) (i + 1)
   rows-go e = rows-step ∙ rw e
 
-  pub rows-bad : r ≡ false → rowsLeft f t rec rows p at i ≡ f (rowAt t p at) rec
-  rows-bad e = rows-step ∙ rw e
+  pub rows-bad : {x a : ℕ} → x ≡ rowsLeft f t rec rows p at i → r ≡ false → a ≡ f (rowAt t p at) rec → a ≡ x
+  rows-bad q e h = h ∙ sym (q ∙ rows-step ∙ rw e)

@@ -9,7 +9,7 @@ use native.Mathlib.Omega.{arith}
 use mathlib.Core.Bool.{true}
 use Rattle.columns.specs.Patterns.{codes, each, one, all, _then_, digits, upTo}
 use Rattle.columns.specs.Layout.{icao, letterDigitBlank as letterDigitBlankPatterns, altitude as altitudePatterns, course as coursePatterns}
-use Rattle.columns.specs.Rows.{when, always, guarded, rowOk, fieldAt}
+use Rattle.columns.specs.Rows.{Alternative, when, always, matches}
 use Rattle.columns.specs.Words.{All, Then, Is, Code, Capital, LetterDigitBlank, LetterOrDigit, TextByte, TextOrBlank, Digits, Icao, Procedure, Altitude, Tenths, Course, RouteType, Distance}
 use Rattle.digits.specs.Digits.{value}
 use Rattle.columns.proofs.PatternLaws.{Says, says-or, says-then, says-all, says-text, says-among, or-blank, plains, plain}
@@ -56,21 +56,24 @@ says-vertical = says-then (says-is "-" refl) (says-digits 3)
 
 -- ---- the two fields that look at another column
 
-pub says-route-type : (rec : List ℕ)
-    → (rowOk (guarded 20 1 (when 13 "D" (each "0123456FMSTV") ++ when 13 "E" (each "123456789FMS") ++ when 13 "F" (each "ABEFGIJKLMNPRTUVWXYZ"))) rec ≡ true)
-    ↔ RouteType rec (fieldAt 20 1 rec)
-unfolding each
-says-route-type rec =
-    either-says rec (fieldAt 20 1 rec) (when 13 "D" (each "0123456FMSTV") ++ when 13 "E" (each "123456789FMS")) (when 13 "F" (each "ABEFGIJKLMNPRTUVWXYZ"))
-    (either-says rec (fieldAt 20 1 rec) (when 13 "D" (each "0123456FMSTV")) (when 13 "E" (each "123456789FMS"))
-    (when-says rec (fieldAt 20 1 rec) 13 "D" (omega arith) (omega arith) (says-codes "0123456FMSTV" refl))
-    (when-says rec (fieldAt 20 1 rec) 13 "E" (omega arith) (omega arith) (says-codes "123456789FMS" refl)))
-    (when-says rec (fieldAt 20 1 rec) 13 "F" (omega arith) (omega arith) (says-codes "ABEFGIJKLMNPRTUVWXYZ" refl))
+abbrev pub routeTypes : List Alternative
+routeTypes = when 13 "D" (each "0123456FMSTV") ++ when 13 "E" (each "123456789FMS") ++ when 13 "F" (each "ABEFGIJKLMNPRTUVWXYZ")
 
-pub says-distance : (rec : List ℕ)
-    → (rowOk (guarded 75 4 (always (digits 4 ++ all 4 " ") ++ when 48 "H" (one "T" then digits 3))) rec ≡ true) ↔ Distance rec (fieldAt 75 4 rec)
+pub says-route-type : (rec f : List ℕ) → (matches routeTypes rec f ≡ true) ↔ RouteType rec f
+unfolding each
+says-route-type rec f =
+    either-says rec f (when 13 "D" (each "0123456FMSTV") ++ when 13 "E" (each "123456789FMS")) (when 13 "F" (each "ABEFGIJKLMNPRTUVWXYZ"))
+    (either-says rec f (when 13 "D" (each "0123456FMSTV")) (when 13 "E" (each "123456789FMS"))
+    (when-says rec f 13 "D" (omega arith) (omega arith) (says-codes "0123456FMSTV" refl))
+    (when-says rec f 13 "E" (omega arith) (omega arith) (says-codes "123456789FMS" refl)))
+    (when-says rec f 13 "F" (omega arith) (omega arith) (says-codes "ABEFGIJKLMNPRTUVWXYZ" refl))
+
+abbrev pub distances : List Alternative
+distances = always (digits 4 ++ all 4 " ") ++ when 48 "H" (one "T" then digits 3)
+
+pub says-distance : (rec f : List ℕ) → (matches distances rec f ≡ true) ↔ Distance rec f
 unfolding codes
-says-distance rec =
-    either-says rec (fieldAt 75 4 rec) (always (digits 4 ++ all 4 " ")) (when 48 "H" (one "T" then digits 3))
-    (always-says rec (fieldAt 75 4 rec) (or-blank 4 (says-digits 4)))
-    (when-says rec (fieldAt 75 4 rec) 48 "H" (omega arith) (omega arith) (says-then (says-is "T" refl) (says-digits 3)))
+says-distance rec f =
+    either-says rec f (always (digits 4 ++ all 4 " ")) (when 48 "H" (one "T" then digits 3))
+    (always-says rec f (or-blank 4 (says-digits 4)))
+    (when-says rec f 48 "H" (omega arith) (omega arith) (says-then (says-is "T" refl) (says-digits 3)))

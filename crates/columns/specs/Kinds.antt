@@ -6,6 +6,7 @@ use mathlib.Core.Bool.{cond}
 use mathlib.Core.List.{List}
 use Rattle.columns.specs.ByteSets.{fits}
 use Rattle.columns.specs.Rows.{Row, byteIn, firstBad}
+use Rattle.columns.specs.Stops.{firstStop}
 use Rattle.columns.specs.Layout.{primary, continuation}
 use Rattle.columns.specs.declared.Kind.{Kind}
 use Rattle.columns.specs.declared.Kind.the-variants.{Primary, Continuation}
@@ -21,3 +22,7 @@ layoutOf Continuation = continuation
 -- the first column of the leftmost field of the record's own layout that holds nothing legal, 0 where all hold something legal
 unfoldable pub firstBadField : List ℕ → ℕ
 firstBadField rec = firstBad (layoutOf (kindOf rec)) rec
+
+-- the first column of that field at which no legal content of the field begins with its bytes so far, 0 where all hold something legal
+unfoldable pub badByte : List ℕ → ℕ
+badByte rec = firstStop (layoutOf (kindOf rec)) rec

@@ -1,9 +1,10 @@
--- The table of columns as data, what its rows mean when they are run, what the paper says in words, with the calendar that it speaks of, and
--- sample records.
+-- The table of columns as data, what its rows mean when they are run, where a field goes wrong, what the paper says in words, with the calendar
+-- that it speaks of, and sample records.
 pub mod ByteSets
 pub mod Patterns
 pub mod Terminators
 pub mod Rows
+pub mod Stops
 pub mod Fields
 pub mod Layout
 pub mod Kinds

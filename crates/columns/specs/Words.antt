@@ -207,3 +207,8 @@ pub record ContinuationContent (rec : List ℕ) : Type 0 where
 -- every field of the record, as one kind or the other, holds what the paper says
 abbrev pub Content : List ℕ → Type 0
 Content rec = PrimaryContent rec ⊎ ContinuationContent rec
+
+-- column c of a record is bad: up to the column before it some record of legal content begins as this one does, and up to c none does
+pub record BadAt (rec : List ℕ) (c : ℕ) : Type 0 where
+  pub begun : (x : List ℕ) × Content x × (length x ≡ 132) × (part (c - 1) 0 x ≡ part (c - 1) 0 rec)
+  pub ended : (x : List ℕ) → Content x → part c 0 x ≡ part c 0 rec → ⊥

@@ -7,8 +7,11 @@ mod matcher;
 mod tables;
 
 ghost use mathlib.Core.Path.{_≡_};
-ghost use Rattle.columns.specs.Kinds.{kindOf, firstBadField};
+ghost use Rattle.columns.specs.Kinds.{kindOf, layoutOf, firstBadField, badByte};
+ghost use Rattle.columns.specs.Rows.{firstOf};
+ghost use Rattle.columns.specs.Stops.{answerOf};
 use field::Field;
+use matcher::Aim;
 
 pub enum Kind {
     Primary,
@@ -26,14 +29,29 @@ pub fn kind_of(rec: &[u8]) -> Kind
     }
 }
 
+// The answer of the leftmost field of the record's own layout that holds nothing legal, or 0.
+fn first_bad_of(rec: &[u8], aim: Aim) -> usize
+    ensures { λ r. ⌜ r ≡ firstOf (answerOf aim) (layoutOf (kindOf (now (rec .entry)))) (now (rec .entry)) ⌝ }
+{
+    let kind = kind_of(rec);
+    match kind {
+        Kind::Primary => tables::first_bad_of_primary(rec, aim),
+        Kind::Continuation => tables::first_bad_of_continuation(rec, aim),
+    }
+}
+
 // The first column of the leftmost field of the record's own layout that holds nothing legal, or 0 where every field holds something
 // legal.
 pub fn first_bad(rec: &[u8]) -> usize
     ensures { λ r. ⌜ r ≡ firstBadField (now (rec .entry)) ⌝ }
 {
-    let kind = kind_of(rec);
-    match kind {
-        Kind::Primary => tables::first_bad_of_primary(rec),
-        Kind::Continuation => tables::first_bad_of_continuation(rec),
-    }
+    first_bad_of(rec, Aim::Field)
+}
+
+// The first column of that field at which no legal content of the field begins with its bytes so far, or 0 where every field holds
+// something legal.
+pub fn bad_byte(rec: &[u8]) -> usize
+    ensures { λ r. ⌜ r ≡ badByte (now (rec .entry)) ⌝ }
+{
+    first_bad_of(rec, Aim::Byte)
 }

@@ -1,11 +1,12 @@
 // The matcher: holds a record to whatever table it is lent. A table's form is that of specs/Table.antt; a byte past its end reads as 0.
 // Assumes of its callers, all in this file, the small bounds that each `requires` names; `first_bad_by` assumes nothing.
 ghost use mathlib.Core.Path.{_≡_};
-ghost use Prim.Native.Nat.{_<_};
+ghost use Prim.Native.Nat.{_<_, max};
 ghost use Rattle.slices.specs.Part.{part};
 ghost use Rattle.columns.specs.Patterns.{fitsAll};
-ghost use Rattle.columns.specs.Rows.{stands, alternativeOk, matches, firstBad};
-ghost use Rattle.columns.specs.Table.{alternativeAt, alternativesAt, decode};
+ghost use Rattle.columns.specs.Rows.{stands, alternativeOk, matches, firstOf};
+ghost use Rattle.columns.specs.Stops.{run, runOf, longest, answerOf};
+ghost use Rattle.columns.specs.Table.{alternativeAt, alternativesAt, rowAt, decode};
 use crate::byte_sets::in_set;
 use slices::byte_after;
 use slices::byte_at;
@@ -64,9 +65,80 @@ fn fits_row(t: &[u8], rec: &[u8], at: usize, w: usize, first: usize, n: usize) -
     false
 }
 
-// The first column of the leftmost row of the table that the record does not fit, or 0.
-pub(crate) fn first_bad_by(t: &[u8], rec: &[u8]) -> usize
-    ensures { λ r. ⌜ r ≡ firstBad (decode (now (t .entry))) (now (rec .entry)) ⌝ }
+// How many of the record's bytes from index `at` on fit the letters of the pattern at p, of which there are w.
+fn run_of_pattern(t: &[u8], rec: &[u8], at: usize, p: usize, w: usize) -> usize
+    ensures { λ r. ⌜ r ≡ run (part w p (now (t .entry))) (part w at (now (rec .entry))) ⌝ }
+{
+    let mut k = 0;
+    while k < w {
+        if in_set(byte_after(t, p, k), byte_after(rec, at, k)) {
+            k += 1;
+        } else {
+            return k;
+        }
+    }
+    k
+}
+
+// The same of the alternative at p; none where it does not stand.
+fn run_of_alternative(t: &[u8], rec: &[u8], at: usize, p: usize, w: usize) -> usize
+    requires { ⌜ p < 33554432 ⌝ }
+    ensures { λ r. ⌜ r ≡ runOf (alternativeAt (now (t .entry)) w p) (now (rec .entry)) (part w at (now (rec .entry))) ⌝ }
+{
+    if guard_stands(rec, byte_at(t, p), byte_at(t, p + 1)) {
+        run_of_pattern(t, rec, at, p + 2, w)
+    } else {
+        0
+    }
+}
+
+fn larger(a: usize, b: usize) -> usize
+    ensures { λ r. ⌜ r ≡ max a b ⌝ }
+{
+    if a < b { b } else { a }
+}
+
+// The most bytes that one of the n alternatives from `first` on takes, of the record's w bytes from index `at` on.
+fn longest_run(t: &[u8], rec: &[u8], at: usize, w: usize, first: usize, n: usize) -> usize
+    requires { ⌜ (w < 256) × (first < 16900000) × (n < 256) ⌝ }
+    ensures { λ r. ⌜ r ≡ longest (alternativesAt (now (t .entry)) n w first) (now (rec .entry)) (part w at (now (rec .entry))) ⌝ }
+{
+    let mut best = 0;
+    let mut p = first;
+    let mut j = 0;
+    while j < n {
+        best = larger(best, run_of_alternative(t, rec, at, p, w));
+        p = p + 2 + w;
+        j += 1;
+    }
+    best
+}
+
+// What an answer aims at in a row that the record does not fit: the field, by its first column, or the first byte up to which the field
+// begins nothing that the row allows.
+pub(crate) enum Aim {
+    Field,
+    Byte,
+}
+
+// The answer of the row at p, whose field begins at index `at` of the record.
+fn answer_of(t: &[u8], rec: &[u8], at: usize, p: usize, aim: Aim) -> usize
+    requires { ⌜ (at < 65536) × (p < 16899998) ⌝ }
+    ensures { λ r. ⌜ r ≡ answerOf aim (rowAt (now (t .entry)) p at) (now (rec .entry)) ⌝ }
+{
+    match aim {
+        Aim::Field => at + 1,
+        Aim::Byte => {
+            let w = byte_at(t, p) as usize;
+            let n = byte_at(t, p + 1) as usize;
+            at + 1 + longest_run(t, rec, at, w, p + 2, n)
+        }
+    }
+}
+
+// The answer of the leftmost row of the table that the record does not fit, or 0.
+pub(crate) fn first_bad_by(t: &[u8], rec: &[u8], aim: Aim) -> usize
+    ensures { λ r. ⌜ r ≡ firstOf (answerOf aim) (decode (now (t .entry))) (now (rec .entry)) ⌝ }
 {
     let rows = byte_at(t, 0) as usize;
     let mut p = 1;
@@ -80,7 +152,7 @@ pub(crate) fn first_bad_by(t: &[u8], rec: &[u8]) -> usize
             at += w;
             i += 1;
         } else {
-            return at + 1;
+            return answer_of(t, rec, at, p, aim);
         }
     }
     0

@@ -1,7 +1,9 @@
 // The layouts as tables of bytes, made by tools/column-tables of specs/Layout.antt and tied to it by computation. Assumes nothing.
 ghost use mathlib.Core.Path.{_≡_};
-ghost use Rattle.columns.specs.Rows.{firstBad};
+ghost use Rattle.columns.specs.Rows.{firstOf};
+ghost use Rattle.columns.specs.Stops.{answerOf};
 ghost use Rattle.columns.specs.Layout.{primary, continuation};
+use crate::matcher::Aim;
 use crate::matcher::first_bad_by;
 
 const PRIMARY: [u8; 1262] =
@@ -10,14 +12,14 @@ const PRIMARY: [u8; 1262] =
 const CONTINUATION: [u8; 524] =
     *b"\x15\x01\x02\x00\x00S\x00\x00T\x03\x03\x00\x00t  \x00\x00tt \x00\x00ttt\x01\x01\x00\x00P\x01\x01\x00\x00 \x04\x04\x00\x00t   \x00\x00tt  \x00\x00ttt \x00\x00tttt\x02\x01\x00\x00nn\x01\x03\x00\x00D\x00\x00E\x00\x00F\x06\x01\x00\x00tsssss\x01,\x0dD0\x0dD1\x0dD2\x0dD3\x0dD4\x0dD5\x0dD6\x0dDF\x0dDM\x0dDS\x0dDT\x0dDV\x0dE1\x0dE2\x0dE3\x0dE4\x0dE5\x0dE6\x0dE7\x0dE8\x0dE9\x0dEF\x0dEM\x0dES\x0dFA\x0dFB\x0dFE\x0dFF\x0dFG\x0dFI\x0dFJ\x0dFK\x0dFL\x0dFM\x0dFN\x0dFP\x0dFR\x0dFT\x0dFU\x0dFV\x0dFW\x0dFX\x0dFY\x0dFZ\x05\x06\x00\x00t    \x00\x00tt   \x00\x00ttt  \x00\x00tttt \x00\x00ttttt\x00\x00     \x01\x01\x00\x00 \x03\x03\x00\x00edd\x00\x000ed\x00\x0000e\x05\x06\x00\x00t    \x00\x00tt   \x00\x00ttt  \x00\x00tttt \x00\x00ttttt\x00\x00     \x02\x02\x00\x00nn\x00\x00  \x01\x02\x00\x00a\x00\x00 \x01\x01\x00\x00o\x01\x01\x00\x00k\x01\x03\x00\x00P\x00\x00S\x00\x00 S\x01\x00\x00ppppppppppppppppppppppppppppppppppppppppppppppppppppppppppppppppppppppppppppppppppp\x05\x01\x00\x00ddddd\x04\x09\x00\x00dd0e\x00\x00dd10\x00\x00dd11\x00\x00dd12\x00\x00dd13\x00\x002014\x00\x004314\x00\x006514\x00\x009814";
 
-pub(crate) fn first_bad_of_primary(rec: &[u8]) -> usize
-    ensures { λ r. ⌜ r ≡ firstBad primary (now (rec .entry)) ⌝ }
+pub(crate) fn first_bad_of_primary(rec: &[u8], aim: Aim) -> usize
+    ensures { λ r. ⌜ r ≡ firstOf (answerOf aim) primary (now (rec .entry)) ⌝ }
 {
-    first_bad_by(&PRIMARY, rec)
+    first_bad_by(&PRIMARY, rec, aim)
 }
 
-pub(crate) fn first_bad_of_continuation(rec: &[u8]) -> usize
-    ensures { λ r. ⌜ r ≡ firstBad continuation (now (rec .entry)) ⌝ }
+pub(crate) fn first_bad_of_continuation(rec: &[u8], aim: Aim) -> usize
+    ensures { λ r. ⌜ r ≡ firstOf (answerOf aim) continuation (now (rec .entry)) ⌝ }
 {
-    first_bad_by(&CONTINUATION, rec)
+    first_bad_by(&CONTINUATION, rec, aim)
 }

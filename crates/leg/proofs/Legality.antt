@@ -14,11 +14,12 @@ use Rattle.slices.proofs.Cases.{split, either, or-left, or-right}
 use Rattle.slices.proofs.PartLaws.{blank-iff, member-iff}
 use Rattle.columns.specs.Patterns.{texts}
 use Rattle.columns.specs.Terminators.{terminators}
-use Rattle.columns.specs.Kinds.{kindOf, firstBadField}
+use Rattle.columns.specs.Kinds.{kindOf, firstBadField, badByte}
 use Rattle.columns.specs.Rows.{byteIn}
 use Rattle.columns.specs.Fields.{field, bytesIn}
 use Rattle.columns.specs.declared.field.Field.{Field}
 use Rattle.columns.specs.Words.{columns, Content, PrimaryContent}
+use Rattle.columns.proofs.BadByte.{byte-legal}
 use Rattle.columns.proofs.Content.{legal, primary-kind, continuation-kind}
 use Rattle.refusals.specs.Table.{fieldContent, companionBlank, neededBlank}
 use Rattle.refusals.specs.declared.Refusal.{Refusal}
@@ -28,7 +29,7 @@ use Rattle.leg.specs.Terminator.{terminatorOf, nameOf, needed}
 use Rattle.leg.specs.declared.terminator.Terminator.{Terminator}
 use Rattle.leg.specs.Stages.{oddOne, companionColumn, needable, asks, missing, neededOf, neededColumn}
 use Rattle.leg.specs.declared.stages.Needable.{Needable}
-use Rattle.leg.specs.Judge.{stage, judgedLeg, byKind, judged}
+use Rattle.leg.specs.Judge.{stage, judgedLeg, byKind, judgedBy, judged, judgedParts}
 use Rattle.leg.specs.Legal.{Filled, Companions, Needs, NeededFields, LegalLeg, Legal}
 use Rattle.leg.proofs.StageLaws.{counted, counted-first, counted-rest}
 use Rattle.leg.proofs.TerminatorLaws.{row-of, named}
@@ -212,31 +213,41 @@ module _ (rec : List ℕ) where
         (l .needs (terminatorOf (columns 48 49 rec)) (named-back (columns 48 49 rec) (l .content .leg .terminator)), l .both),
   )
 
-  -- the record is accepted exactly when it is legal, whatever its place
-  pub accepted-iff : (place : ℕ) → (judged place rec ≡ Accepted) ↔ Legal rec
-  unfolding judged judgedLeg
-  accepted-iff place = (to, from)
-    where
-      to : judged place rec ≡ Accepted → Legal rec
-      to e =
-          let s = stage-iff (firstBadField rec) (fieldContent place) (byKind (kindOf rec) (judgedLeg place rec)) .0 e in
-          by (legal rec .0 (s .0)) (s .1)
-        where
-          by : Content rec → byKind (kindOf rec) (judgedLeg place rec) ≡ Accepted → Legal rec
-          by (inl c) q =
-              let j : judgedLeg place rec ≡ Accepted = rw (primary-kind rec c) at q in
-              let s4 = stage-iff (companionColumn rec) (companionBlank place) (stage (neededColumn rec) (neededBlank place) Accepted) .0 j in
-              inl (leg-to c (s4 .0) (stage-iff (neededColumn rec) (neededBlank place) Accepted .0 (s4 .1) .0))
-          by (inr c) q = inr c
+  -- whichever column stage 3 answers
+  module _ (column : ℕ) (content : (column ≡ 0) ↔ Content rec) (place : ℕ) where
+    by-column : (judgedBy column place rec ≡ Accepted) ↔ Legal rec
+    unfolding judgedLeg
+    by-column = (to, from)
+      where
+        to : judgedBy column place rec ≡ Accepted → Legal rec
+        to e =
+            let s = stage-iff column (fieldContent place) (byKind (kindOf rec) (judgedLeg place rec)) .0 e in
+            by (content .0 (s .0)) (s .1)
+          where
+            by : Content rec → byKind (kindOf rec) (judgedLeg place rec) ≡ Accepted → Legal rec
+            by (inl c) q =
+                let j : judgedLeg place rec ≡ Accepted = rw (primary-kind rec c) at q in
+                let s4 = stage-iff (companionColumn rec) (companionBlank place) (stage (neededColumn rec) (neededBlank place) Accepted) .0 j in
+                inl (leg-to c (s4 .0) (stage-iff (neededColumn rec) (neededBlank place) Accepted .0 (s4 .1) .0))
+            by (inr c) q = inr c
 
-      from : Legal rec → judged place rec ≡ Accepted
-      from (inl l) =
-          let z = leg-from l in
-          stage-iff (firstBadField rec) (fieldContent place) (byKind (kindOf rec) (judgedLeg place rec)) .1 (
-            legal rec .1 (inl (l .content)),
-            rw (primary-kind rec (l .content))
-                (stage-iff (companionColumn rec) (companionBlank place) (stage (neededColumn rec) (neededBlank place) Accepted) .1
-                (z .0, stage-iff (neededColumn rec) (neededBlank place) Accepted .1 (z .1, refl))),
-          )
-      from (inr c) =
-          stage-iff (firstBadField rec) (fieldContent place) (byKind (kindOf rec) (judgedLeg place rec)) .1 (legal rec .1 (inr c), rw (continuation-kind rec c))
+        from : Legal rec → judgedBy column place rec ≡ Accepted
+        from (inl l) =
+            let z = leg-from l in
+            stage-iff column (fieldContent place) (byKind (kindOf rec) (judgedLeg place rec)) .1 (
+              content .1 (inl (l .content)),
+              rw (primary-kind rec (l .content))
+                  (stage-iff (companionColumn rec) (companionBlank place) (stage (neededColumn rec) (neededBlank place) Accepted) .1
+                  (z .0, stage-iff (neededColumn rec) (neededBlank place) Accepted .1 (z .1, refl))),
+            )
+        from (inr c) =
+            stage-iff column (fieldContent place) (byKind (kindOf rec) (judgedLeg place rec)) .1 (content .1 (inr c), rw (continuation-kind rec c))
+
+  -- the record is accepted exactly when it is legal, whatever its place, be it read or made of parts
+  pub accepted-iff : (place : ℕ) → (judged place rec ≡ Accepted) ↔ Legal rec
+  unfolding judged
+  accepted-iff = by-column (badByte rec) (byte-legal rec)
+
+  pub parts-accepted-iff : (place : ℕ) → (judgedParts place rec ≡ Accepted) ↔ Legal rec
+  unfolding judgedParts
+  parts-accepted-iff = by-column (firstBadField rec) (legal rec)

@@ -1,5 +1,5 @@
--- Worked vectors, by evaluation: legal records with fields blanked or changed, and what judging them at place 7 gives: the number and
--- the column of the refusal, 0 and 0 where they are accepted.
+-- Worked vectors, by evaluation: legal records with fields blanked or changed, and what judging them at place 7 gives, as they are read and as
+-- parts make them: the number and the column of the refusal, 0 and 0 where they are accepted.
 -- Assumes nothing.
 use mathlib.Core.Path.{_≡_, refl}
 use mathlib.Core.Bool.{Bool, true, cond, _&&_}
@@ -12,14 +12,16 @@ use Rattle.slices.specs.Search.{firstAt}
 use Rattle.columns.specs.ByteSets.{fits}
 use Rattle.columns.specs.Patterns.{fitsAll}
 use Rattle.columns.specs.Rows.{stands, matches, firstOf}
+use Rattle.columns.specs.Stops.{run, longest}
 use Rattle.columns.specs.Layout.{primary, continuation}
-use Rattle.columns.specs.Kinds.{kindOf, layoutOf, firstBadField}
+use Rattle.columns.specs.Kinds.{kindOf, layoutOf, firstBadField, badByte}
 use Rattle.columns.specs.Samples.{_at_is_, approach, full, notes}
 use Rattle.refusals.specs.Table.{refusal, stated}
 use Rattle.refusals.specs.declared.Refusal.{Refusal}
+use Rattle.refusals.specs.declared.Verdict.{Verdict}
 use Rattle.leg.specs.Terminator.{inOrder, terminatorAt, terminatorOf, needs, needed}
 use Rattle.leg.specs.Stages.{oddOne, missing, companionColumn, neededOf, neededColumn}
-use Rattle.leg.specs.Judge.{stage, judgedLeg, judged}
+use Rattle.leg.specs.Judge.{stage, judgedLeg, judged, judgedParts}
 
 record Vector : Type 0 where
   content : List ℕ
@@ -36,16 +38,18 @@ same r s = eqb (r .number) (s .number) && (eqb (r .place) (s .place) && eqb (r .
 expected : Vector → Refusal
 expected v = cond (eqb (v .number) 0) (refusal 0 0 0) (refusal (v .number) 7 (v .column))
 
-right : List Vector → Bool
-right [] = true
-right (v ∷ vs) = same (stated (judged 7 (v .content))) (expected v) && right vs
+right : (List ℕ → Verdict) → List Vector → Bool
+right verdict [] = true
+right verdict (v ∷ vs) = same (stated (verdict (v .content))) (expected v) && right verdict vs
 
 vectors : List Vector
 vectors =
     full gives 0 at 0 ∷
     notes gives 0 at 0 ∷
     [] gives 3 at 1 ∷  -- the stages come in order
-    full at 63 is "3601" at 35 is "  " at 71 is "    " gives 3 at 63 ∷
+    full at 63 is "3601" at 35 is "  " at 71 is "    " gives 3 at 66 ∷
+    full at 85 is "1500 " gives 3 at 89 ∷
+    full at 75 is "T010" gives 3 at 75 ∷
     full at 35 is "  " at 71 is "    " gives 4 at 35 ∷
     full at 71 is "    " gives 5 at 71 ∷
     full at 30 is "     " gives 4 at 30 ∷  -- companions: each blank alone, each filled alone, all blank
@@ -82,6 +86,16 @@ vectors =
     full at 83 is "C" at 85 is "     " at 90 is "     " gives 0 at 0 ∷
     []
 
-worked : right vectors ≡ true
-unfolding vectors right full same expected _gives_at_ _at_is_ approach notes judged judgedLeg stage companionColumn oddOne neededColumn neededOf missing blank member terminatorOf terminatorAt inOrder needed needs firstAt equal order firstBadField layoutOf kindOf firstOf matches stands fitsAll fits part primary continuation
+-- made of parts: 3 has the field's first column, and nothing else is another
+ofParts : List Vector
+ofParts =
+    full gives 0 at 0 ∷
+    full at 63 is "3601" at 35 is "  " at 71 is "    " gives 3 at 63 ∷
+    full at 85 is "1500 " gives 3 at 85 ∷
+    full at 35 is "  " at 71 is "    " gives 4 at 35 ∷
+    full at 71 is "    " gives 5 at 71 ∷
+    []
+
+worked : (right (judged 7) vectors && right (judgedParts 7) ofParts) ≡ true
+unfolding vectors ofParts right full same expected _gives_at_ _at_is_ approach notes judged judgedParts judgedLeg stage companionColumn oddOne neededColumn neededOf missing blank member terminatorOf terminatorAt inOrder needed needs firstAt equal order firstBadField badByte run longest layoutOf kindOf firstOf matches stands fitsAll fits part primary continuation
 worked = refl

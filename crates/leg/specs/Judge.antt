@@ -4,7 +4,7 @@ use Prim.Native.Nat.{ℕ}
 use mathlib.Core.Bool.{cond}
 use mathlib.Core.List.{List}
 use lib.Dec.{eqb}
-use Rattle.columns.specs.Kinds.{kindOf, firstBadField}
+use Rattle.columns.specs.Kinds.{kindOf, firstBadField, badByte}
 use Rattle.columns.specs.declared.Kind.{Kind}
 use Rattle.columns.specs.declared.Kind.the-variants.{Primary, Continuation}
 use Rattle.refusals.specs.Table.{fieldContent, companionBlank, neededBlank}
@@ -26,6 +26,14 @@ abbrev pub byKind : Kind → Verdict → Verdict
 byKind Primary v = v
 byKind Continuation v = Accepted
 
--- 3, then 4 and 5 of a primary
+-- 3, by the column that its stage found, then 4 and 5 of a primary
+abbrev pub judgedBy : (column : ℕ) → ℕ → List ℕ → Verdict
+judgedBy column place rec = stage column (fieldContent place) (byKind (kindOf rec) (judgedLeg place rec))
+
+-- a record that is read: 3 at the bad byte
 unfoldable pub judged : ℕ → List ℕ → Verdict
-judged place rec = stage (firstBadField rec) (fieldContent place) (byKind (kindOf rec) (judgedLeg place rec))
+judged place rec = judgedBy (badByte rec) place rec
+
+-- a record that parts make: 3 at the first column of the field, since the bytes in it are nobody's
+unfoldable pub judgedParts : ℕ → List ℕ → Verdict
+judgedParts place rec = judgedBy (firstBadField rec) place rec

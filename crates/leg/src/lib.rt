@@ -4,7 +4,7 @@ mod stages;
 pub mod terminator;
 
 ghost use mathlib.Core.Path.{_≡_};
-ghost use Rattle.leg.specs.Judge.{judged, judgedLeg};
+ghost use Rattle.leg.specs.Judge.{judged, judgedBy, judgedLeg, judgedParts};
 use columns::Kind;
 use refusals::Refusal;
 use refusals::Verdict;
@@ -24,12 +24,10 @@ fn judge_leg(rec: &[u8], place: usize) -> Verdict
     Verdict::Accepted
 }
 
-// Judges one record by itself, as the one at a place: 3 for the leftmost field that holds nothing legal, 4 for a companion that is
-// blank, 5 for a needed field that is blank, in this order. A continuation has the first of these stages alone.
-pub fn judge(rec: &[u8], place: usize) -> Verdict
-    ensures { λ r. ⌜ r ≡ judged place (now (rec .entry)) ⌝ }
+// All three stages, of which the first found a column, or 0.
+fn judge_by(column: usize, rec: &[u8], place: usize) -> Verdict
+    ensures { λ r. ⌜ r ≡ judgedBy column place (now (rec .entry)) ⌝ }
 {
-    let column = columns::first_bad(rec);
     if column != 0 {
         return Verdict::Refused(Refusal::field_content(place, column));
     }
@@ -38,4 +36,20 @@ pub fn judge(rec: &[u8], place: usize) -> Verdict
         Kind::Primary => judge_leg(rec, place),
         Kind::Continuation => Verdict::Accepted,
     }
+}
+
+// Judges one record by itself, as the one at a place: 3 for the first byte at which the leftmost field that holds nothing legal can't go on
+// to anything legal, 4 for a companion that is blank, 5 for a needed field that is blank, in this order. A continuation has the first of
+// these stages alone.
+pub fn judge(rec: &[u8], place: usize) -> Verdict
+    ensures { λ r. ⌜ r ≡ judged place (now (rec .entry)) ⌝ }
+{
+    judge_by(columns::bad_byte(rec), rec, place)
+}
+
+// The same of a record that parts make: 3 has the first column of the field, wherever in it the trouble lies.
+pub fn judge_parts(rec: &[u8], place: usize) -> Verdict
+    ensures { λ r. ⌜ r ≡ judgedParts place (now (rec .entry)) ⌝ }
+{
+    judge_by(columns::first_bad(rec), rec, place)
 }

@@ -17,7 +17,7 @@ use Rattle.refusals.specs.Table.{cutShort, bufferTooShort}
 use Rattle.refusals.specs.declared.Refusal.{Refusal}
 use Rattle.refusals.specs.declared.Verdict.{Verdict}
 use Rattle.refusals.specs.declared.Verdict.the-variants.{Accepted, Refused}
-use Rattle.leg.specs.Judge.{stage, judged}
+use Rattle.leg.specs.Judge.{stage, judged, judgedParts}
 use Rattle.parts.specs.Record.{sizeColumn, columnsOf, alone, refusedReading, legReading, continuationReading, readingByKind, readingOf, writing, writtenBy, written}
 use Rattle.parts.specs.declared.Reading.{Reading}
 
@@ -79,7 +79,7 @@ module _ (rec : List ℕ) (n : ℕ) where
   unfolding writing writtenBy
   finish-short h e f = rw (lt-ltb n 133 h) (e, f)
 
-  module _ (h : 133 ≤ n) {j : Verdict} (q : j ≡ judged 0 rec) where
+  module _ (h : 133 ≤ n) {j : Verdict} (q : j ≡ judgedParts 0 rec) where
     pub finish-refused : {r : Refusal} {v : Verdict} {z : List ℕ} → j ≡ Refused r → v ≡ Refused r → z ≡ replicate n 0 → (v ≡ writing n rec) × (z ≡ written n rec)
     unfolding writing writtenBy
     finish-refused f e g = rw (le-ltb n 133 h, ← q, f) (e, g)

@@ -25,7 +25,7 @@ use Rattle.refusals.specs.declared.Verdict.{Verdict}
 use Rattle.refusals.specs.declared.Verdict.the-variants.{Accepted, Refused}
 use Rattle.leg.specs.Judge.{judged}
 use Rattle.leg.specs.Legal.{LegalLeg, Legal}
-use Rattle.leg.proofs.Legality.{accepted-iff, stage-iff}
+use Rattle.leg.proofs.Legality.{accepted-iff, parts-accepted-iff, stage-iff}
 use Rattle.fields.specs.Leg.{legOf, legPieces, renderLeg}
 use Rattle.fields.specs.Continuation.{continuationOf, contentOf, continuationPieces, renderContinuation}
 use Rattle.parts.specs.Record.{sizeColumn, columnsOf, alone, refusedReading, readingBy, readingByKind, legReading, continuationReading, readingOf, writing, writtenBy, written}
@@ -62,7 +62,7 @@ length-continuation c content = length-made (continuationPieces c content)
 -- with room for it, a record is written exactly when it is legal
 writing-iff : (n : ℕ) (rec : List ℕ) → 133 ≤ n → (writing n rec ≡ Accepted) ↔ Legal rec
 unfolding writing
-writing-iff n rec h = rw (le-ltb n 133 h) (accepted-iff rec 0)
+writing-iff n rec h = rw (le-ltb n 133 h) (parts-accepted-iff rec 0)
 
 legal-leg : (g : Leg) → Legal (renderLeg g) → LegalLeg (renderLeg g)
 legal-leg g (inl h) = h

@@ -13,7 +13,7 @@ use Rattle.refusals.specs.Table.{cutShort, bufferTooShort}
 use Rattle.refusals.specs.declared.Refusal.{Refusal}
 use Rattle.refusals.specs.declared.Verdict.{Verdict}
 use Rattle.refusals.specs.declared.Verdict.the-variants.{Accepted, Refused}
-use Rattle.leg.specs.Judge.{stage, judged}
+use Rattle.leg.specs.Judge.{stage, judged, judgedParts}
 use Rattle.fields.specs.Leg.{legOf, renderLeg}
 use Rattle.fields.specs.Continuation.{continuationOf, contentOf, renderContinuation}
 use Rattle.fields.specs.declared.primary.Leg.{Leg}
@@ -59,9 +59,9 @@ readingBy (Refused r) rec = refusedReading r
 unfoldable pub readingOf : List ℕ → Reading
 readingOf s = readingBy (alone s) (columnsOf s)
 
--- 14, then 3, 4, 5 of the record that the parts make; n bytes are lent
+-- 14, then 3, 4, 5 of the record that the parts make, 3 at the first column of the field; n bytes are lent
 unfoldable pub writing : ℕ → List ℕ → Verdict
-writing n rec = cond (ltb n 133) (Refused bufferTooShort) (judged 0 rec)
+writing n rec = cond (ltb n 133) (Refused bufferTooShort) (judgedParts 0 rec)
 
 -- the record with its line feed and zeros past it, or only zeros
 unfoldable pub writtenBy : Verdict → ℕ → List ℕ → List ℕ

@@ -86,7 +86,7 @@ fn reading_of(rec: &[u8]) -> Reading
     }
 }
 
-// Reads one record alone, 132 columns and a line feed: refusal 1, then 3, 4, 5, at place 1; or its parts.
+// Reads one record alone, 132 columns and a line feed: refusal 1, then 3, 4, 5, at place 1, 3 at the bad byte; or its parts.
 pub fn read(s: &[u8]) -> Reading
     ensures { λ r. ⌜ r ≡ readingOf (now (s .entry)) ⌝ }
 {
@@ -111,14 +111,14 @@ fn refuse(r: Refusal, out: &mut [u8]) -> Verdict
 }
 
 // Writes a record that was put together, with its line feed and zeros past it: 14 where fewer than 133 bytes are lent, then 3, 4, 5, at
-// place 0. On a refusal every byte is 0.
+// place 0, 3 with the first column of the field. On a refusal every byte is 0.
 fn finish(rec: [u8; 132], out: &mut [u8]) -> Verdict
     ensures { λ r. ⌜ RecordLeft rec (now (out .entry)) r (now (out .exit)) ⌝ }
 {
     if out.len() < 133 {
         return refuse(Refusal::buffer_too_short(), &mut *out);
     }
-    let verdict = leg::judge(&rec, 0);
+    let verdict = leg::judge_parts(&rec, 0);
     match verdict {
         Verdict::Accepted => {
             slices::copy(&rec, 0, &mut *out, 0, 132);

@@ -16,7 +16,7 @@ cutShort place column = refusal 1 place column
 abbrev pub tooManyRecords : Refusal
 tooManyRecords = refusal 2 481 0
 
--- field content: the record, the field's first column
+-- field content: the record, and the bad byte where it is read, the field's first column where it is written
 abbrev pub fieldContent : (place column : ℕ) → Refusal
 fieldContent place column = refusal 3 place column
 

@@ -94,7 +94,7 @@ impl Refusal {
         Refusal::of(Refusal::TOO_MANY_RECORDS, RECORD_TOO_MANY, 0)
     }
 
-    // The field that begins at the column holds nothing legal.
+    // The field that the column is in holds nothing legal: the bad byte in a record that is read, the first column in one that parts make.
     pub fn field_content(place: usize, column: usize) -> Refusal
         ensures { λ r. ⌜ r ≡ fieldContent place column ⌝ }
     {

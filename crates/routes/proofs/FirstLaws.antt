@@ -14,7 +14,7 @@ use Rattle.slices.specs.Order.{order}
 use Rattle.slices.proofs.Cases.{split}
 use Rattle.refusals.proofs.VerdictLaws.{never}
 use Rattle.columns.specs.Words.{columns}
-use Rattle.columns.specs.Kinds.{kindOf, firstBadField}
+use Rattle.columns.specs.Kinds.{kindOf, badByte}
 use Rattle.columns.specs.declared.Kind.{Kind}
 use Rattle.columns.specs.declared.Kind.the-variants.{Primary, Continuation}
 use Rattle.refusals.specs.Table.{refusal, fieldContent, companionBlank, neededBlank, continuationHead, routeNotLater, sequenceNotRisen, legPair, legEnding}
@@ -81,7 +81,7 @@ module _ (place : ℕ) (rec : List ℕ) where
   pub judged-names : Naming 3 5 place (judged place rec)
   unfolding judged judgedLeg
   judged-names =
-      names-stage (firstBadField rec) (fieldContent place) _ (named 3 place (firstBadField rec) 3 5 (omega arith) (omega arith)) (by (kindOf rec))
+      names-stage (badByte rec) (fieldContent place) _ (named 3 place (badByte rec) 3 5 (omega arith) (omega arith)) (by (kindOf rec))
     where
       by : (k : Kind) → Naming 3 5 place (byKind k (judgedLeg place rec))
       by Continuation = names-accepted

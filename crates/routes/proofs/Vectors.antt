@@ -14,9 +14,10 @@ use Rattle.slices.specs.Search.{firstAt}
 use Rattle.columns.specs.ByteSets.{fits}
 use Rattle.columns.specs.Patterns.{codes, texts, fitsAll}
 use Rattle.columns.specs.Rows.{stands, matches, firstOf}
+use Rattle.columns.specs.Stops.{run, longest}
 use Rattle.columns.specs.Layout.{primary, continuation}
 use Rattle.columns.specs.Terminators.{terminators}
-use Rattle.columns.specs.Kinds.{kindOf, layoutOf, firstBadField}
+use Rattle.columns.specs.Kinds.{kindOf, layoutOf, badByte}
 use Rattle.columns.specs.Samples.{_at_is_, approach, notes}
 use Rattle.refusals.specs.Table.{refusal, stated}
 use Rattle.refusals.specs.declared.Refusal.{Refusal}
@@ -94,9 +95,9 @@ vectors =
     (missed ++ missed) gives 1 at 1 column 133 ∷
     missed then codes "S" gives 1 at 2 column 2 ∷
     continued then codes "S" gives 1 at 2 column 2 ∷
-    missed then missed at 27 is "020" at 63 is "3601" then end gives 3 at 2 column 63 ∷  -- 3, 4
+    missed then missed at 27 is "020" at 63 is "3601" then end gives 3 at 2 column 66 ∷  -- 3, 4
     missed at 35 is "  " then missed at 63 is "3601" then end gives 4 at 1 column 35 ∷
-    missed at 63 is "3601" then missed at 35 is "  " then end gives 3 at 1 column 63 ∷
+    missed at 63 is "3601" then missed at 35 is "  " then end gives 3 at 1 column 66 ∷
     note then end gives 6 at 1 column 39 ∷  -- 6
     continued then note then end gives 0 at 0 column 0 ∷
     continued then note then note at 39 is "3" then missed at 27 is "020" then end gives 0 at 0 column 0 ∷
@@ -116,5 +117,5 @@ vectors =
     []
 
 worked : right vectors ≡ true
-unfolding vectors right same leg missed continued note _gives_at_column_ _then_ _at_is_ approach notes codes texts fileVerdict sizeStage tailStage tailColumn inTurn leading records starts pieces behindRecords recordWithin walkFrom followed endsRoute finished last judgedNext primaryAfter continuationStage continuationColumn numberAfter firstDifference awaits orderStage sequenceStage legStage legStands endingStage firstLeg lastLeg mayBegin mayEnd kindNumber kindAt ofKind routeKinds named pair readable mark page oldPair onlyFirst followsFix judged judgedLeg stage companionColumn oddOne neededColumn neededOf missing blank member terminatorOf terminatorAt inOrder terminatorNumber nameOf among endsAtFix needed needs terminators firstAt equal order firstBadField layoutOf kindOf firstOf matches stands fitsAll fits part primary continuation
+unfolding vectors right same leg missed continued note _gives_at_column_ _then_ _at_is_ approach notes codes texts fileVerdict sizeStage tailStage tailColumn inTurn leading records starts pieces behindRecords recordWithin walkFrom followed endsRoute finished last judgedNext primaryAfter continuationStage continuationColumn numberAfter firstDifference awaits orderStage sequenceStage legStage legStands endingStage firstLeg lastLeg mayBegin mayEnd kindNumber kindAt ofKind routeKinds named pair readable mark page oldPair onlyFirst followsFix judged judgedLeg stage companionColumn oddOne neededColumn neededOf missing blank member terminatorOf terminatorAt inOrder terminatorNumber nameOf among endsAtFix needed needs terminators firstAt equal order badByte run longest layoutOf kindOf firstOf matches stands fitsAll fits part primary continuation
 worked = refl

@@ -8,8 +8,8 @@ use mathlib.Core.List.{List, [], _∷_, _++_, List·Memᴰ, List·Memᴰ·head, 
 use Prim.Native.Nat.{ℕ, zero, suc, _+_, _-_, _≤_, _<_}
 use native.Mathlib.Omega.{arith}
 use native.Mathlib.Nat.{sub-zero, add-zero, le-of-suc-le-suc, not-suc-le-zero}
-use lib.ListN.{length, getD, take, drop, replicate}
-use lib.Seq.{drop-cons, take-all}
+use lib.ListN.{length, getD, take, drop, replicate, List·getD-append}
+use lib.Seq.{drop-cons, take-all, getD-append-add}
 use lib.Dec.{eqb}
 use borrow.Author.Tests.{eqb-true, eq-eqb, ne-eqb}
 use Rattle.slices.specs.Part.{part, blank, member}
@@ -57,6 +57,42 @@ part-append (suc m) n i xs =
     let e : suc m + n ≡ suc (m + n) = omega arith in
     let f : i + suc m ≡ suc i + m = omega arith in
     rw (e, f) (ap (λ (t : List ℕ). getD xs i 0 ∷ t) (part-append m n (suc i) xs))
+
+-- runs of the same bytes
+part-same : (n i j : ℕ) (xs ys : List ℕ) → ((k : ℕ) → k < n → getD xs (i + k) 0 ≡ getD ys (j + k) 0) → part n i xs ≡ part n j ys
+unfolding part
+part-same zero i j xs ys h = refl
+part-same (suc n) i j xs ys h =
+    let a : i + 0 ≡ i = omega arith in
+    let b : j + 0 ≡ j = omega arith in
+    let e : getD xs (i + 0) 0 ≡ getD ys (j + 0) 0 = h 0 (omega arith) in
+    ap₂ (λ (b : ℕ) (f : List ℕ). b ∷ f) (rw (a, b) at e)
+    (part-same n (suc i) (suc j) xs ys
+    (λ k l.
+    let p : suc i + k ≡ i + suc k = omega arith in
+    let q : suc j + k ≡ j + suc k = omega arith in
+    rw (p, q) (h (suc k) (omega arith))))
+
+-- a run of two lists joined that lies in the first, or behind it
+pub part-front : (n i : ℕ) (xs ys : List ℕ) → i + n ≤ length xs → part n i (xs ++ ys) ≡ part n i xs
+part-front n i xs ys h = part-same n i i (xs ++ ys) xs (λ k l. List·getD-append xs ys 0 (i + k) (omega arith))
+
+pub part-behind : (n i : ℕ) (xs ys : List ℕ) → part n (length xs + i) (xs ++ ys) ≡ part n i ys
+part-behind n i xs ys =
+    part-same n (length xs + i) i (xs ++ ys) ys
+    (λ k l. let e : length xs + i + k ≡ length xs + (i + k) = omega arith in rw e (getD-append-add xs ys (i + k) 0))
+
+-- lists that begin with the same run have the same bytes and runs in it
+module _ (n : ℕ) (xs ys : List ℕ) (same : part n 0 xs ≡ part n 0 ys) where
+  pub same-byte : (i : ℕ) → i < n → getD xs i 0 ≡ getD ys i 0
+  same-byte i h =
+      let e : 0 + i ≡ i = omega arith in
+      let x : getD (part n 0 xs) i 0 ≡ getD xs i 0 = getD-part n 0 xs i h ∙ rw e in
+      let y : getD (part n 0 ys) i 0 ≡ getD ys i 0 = getD-part n 0 ys i h ∙ rw e in
+      sym x ∙ ap (λ (t : List ℕ). getD t i 0) same ∙ y
+
+  pub same-part : (m i : ℕ) → i + m ≤ n → part m i xs ≡ part m i ys
+  same-part m i h = part-same m i i xs ys (λ k l. same-byte (i + k) (omega arith))
 
 -- within the list a run is a plain cut
 pub part-take : (n i : ℕ) (xs : List ℕ) → i + n ≤ length xs → part n i xs ≡ take n (drop i xs)

@@ -13,8 +13,8 @@ use Rattle.refusals.specs.Table.{fieldContent, companionBlank, neededBlank}
 use Rattle.refusals.specs.declared.Refusal.{Refusal}
 use Rattle.refusals.specs.declared.Verdict.the-variants.{Accepted, Refused}
 use Rattle.columns.specs.Rows.{Leftmost}
-use Rattle.columns.specs.Kinds.{kindOf, layoutOf, firstBadField}
-use Rattle.columns.specs.Words.{ContinuationContent}
+use Rattle.columns.specs.Kinds.{kindOf, layoutOf, firstBadField, badByte}
+use Rattle.columns.specs.Words.{ContinuationContent, BadAt}
 use Rattle.leg.specs.Stages.{companionColumn, neededColumn}
 use Rattle.leg.specs.Judge.{stage}
 use Rattle.leg.specs.Legal.{LegalLeg, Legal}
@@ -87,9 +87,13 @@ answer-refused = order.answer-first
 pub first-record : (ahead recs : List (List ℕ)) (r : Refusal) → (walkFrom ahead nothing 1 recs ≡ Refused r) ↔ FirstRecord ahead r nothing 1 recs
 first-record ahead recs r = walk-refuses ahead r nothing 1 recs
 
+pub bad-byte : (place : ℕ) (rec : List ℕ) (r : Refusal) → (stage (badByte rec) (fieldContent place) Accepted ≡ Refused r)
+    ↔ ((c : ℕ) × (1 ≤ c) × (r ≡ fieldContent place c) × BadAt rec c)
+bad-byte = order.byte-refuses
+
 pub leftmost-field : (place : ℕ) (rec : List ℕ) (r : Refusal) → (stage (firstBadField rec) (fieldContent place) Accepted ≡ Refused r)
     ↔ ((c : ℕ) × (1 ≤ c) × (r ≡ fieldContent place c) × Leftmost rec c (layoutOf (kindOf rec)))
-leftmost-field = order.content-refuses
+leftmost-field = order.field-refuses
 
 pub first-companion : (place : ℕ) (rec : List ℕ) (r : Refusal) → (stage (companionColumn rec) (companionBlank place) Accepted ≡ Refused r)
     ↔ First r (companionOrder place rec)

@@ -21,13 +21,15 @@ use Rattle.slices.specs.Part.{blank}
 use Rattle.columns.specs.Rows.{Leftmost}
 use Rattle.columns.specs.Fields.{field, bytesIn}
 use Rattle.columns.specs.declared.field.Field.{Field}
-use Rattle.columns.specs.Kinds.{kindOf, layoutOf, firstBadField}
+use Rattle.columns.specs.Kinds.{kindOf, layoutOf, firstBadField, badByte}
 use Rattle.columns.specs.declared.Kind.{Kind}
 use Rattle.columns.specs.declared.Kind.the-variants as kind
+use Rattle.columns.specs.Words.{BadAt}
 use Rattle.columns.proofs.RowLaws.{leftmost-iff}
+use Rattle.columns.proofs.BadByte.{no-legal-record}
 use Rattle.leg.specs.Stages.{oddOne, companionColumn, needable, missing, neededOf, neededColumn}
 use Rattle.leg.specs.declared.stages.Needable.{Needable}
-use Rattle.leg.specs.Judge.{stage, judgedLeg, byKind, judged}
+use Rattle.leg.specs.Judge.{stage, judgedLeg, byKind, judgedBy, judged, judgedParts}
 use Rattle.parts.specs.Record.{alone, readingOf, writing, sizeColumn, columnsOf}
 use Rattle.parts.proofs.Theorems.{reading-verdict}
 use Rattle.routes.specs.InTurn.{inTurn}
@@ -76,11 +78,11 @@ same-refused e = cc
 
 -- ---- a record
 
-judged-order : (place : ℕ) (rec : List ℕ) → judged place rec ≡ inTurn (recordOrder place rec)
-unfolding judged judgedLeg inTurn
-judged-order place rec =
-    ap (stage (firstBadField rec) (fieldContent place)) (by (kindOf rec))
-    ∙ stage-turn (firstBadField rec) (fieldContent place) (byKind (kindOf rec) companions ∷ byKind (kindOf rec) needed ∷ [])
+judged-order : (bad place : ℕ) (rec : List ℕ) → judgedBy bad place rec ≡ inTurn (recordOrder bad place rec)
+unfolding judgedLeg inTurn
+judged-order bad place rec =
+    ap (stage bad (fieldContent place)) (by (kindOf rec))
+    ∙ stage-turn bad (fieldContent place) (byKind (kindOf rec) companions ∷ byKind (kindOf rec) needed ∷ [])
   where
     companions : Verdict
     companions = stage (companionColumn rec) (companionBlank place) Accepted
@@ -93,19 +95,29 @@ judged-order place rec =
         ap (stage (companionColumn rec) (companionBlank place)) (sym (turns.alone needed)) ∙ stage-turn (companionColumn rec) (companionBlank place) (needed ∷ [])
     by kind.Continuation = refl
 
--- Stage 3 refuses exactly at the first column of the leftmost field that holds nothing legal.
-pub content-refuses : (place : ℕ) (rec : List ℕ) (r : Refusal) → (stage (firstBadField rec) (fieldContent place) Accepted ≡ Refused r)
-    ↔ ((c : ℕ) × (1 ≤ c) × (r ≡ fieldContent place c) × Leftmost rec c (layoutOf (kindOf rec)))
-unfolding stage firstBadField
-content-refuses place rec r = (
+-- Stage 3 refuses exactly at the column that it finds, whatever is said of that one
+content-refuses : (bad : ℕ) (P : ℕ → Type 0) → ((c : ℕ) → 1 ≤ c → (bad ≡ c) ↔ P c) → (place : ℕ) (r : Refusal)
+    → (stage bad (fieldContent place) Accepted ≡ Refused r) ↔ ((c : ℕ) × (1 ≤ c) × (r ≡ fieldContent place c) × P c)
+unfolding stage
+content-refuses bad P found place r = (
   λ e.
-      let c = firstBadField rec in
-      split (eqb c 0) (λ z. absurd (never (sym (rw z at e))))
-      (λ z. let k : 1 ≤ c = omega (arith, eqb-false c 0 z) in (c, k, sym (same-refusal (rw z at e)), leftmost-iff (layoutOf (kindOf rec)) rec c k .0 refl)),
-  λ (c, k, e, l).
-      let q : firstBadField rec ≡ c = leftmost-iff (layoutOf (kindOf rec)) rec c k .1 l in
+      split (eqb bad 0) (λ z. absurd (never (sym (rw z at e))))
+      (λ z. let k : 1 ≤ bad = omega (arith, eqb-false bad 0 z) in (bad, k, sym (same-refusal (rw z at e)), found bad k .0 refl)),
+  λ (c, k, e, p).
+      let q : bad ≡ c = found c k .1 p in
       rw (q, ne-eqb c 0 (λ (z : c ≡ 0). omega arith), e),
 )
+
+-- Of a record that is read: at the column that is bad.
+pub byte-refuses : (place : ℕ) (rec : List ℕ) (r : Refusal) → (stage (badByte rec) (fieldContent place) Accepted ≡ Refused r)
+    ↔ ((c : ℕ) × (1 ≤ c) × (r ≡ fieldContent place c) × BadAt rec c)
+byte-refuses place rec = content-refuses (badByte rec) (BadAt rec) (no-legal-record rec) place
+
+-- Of a record that parts make: at the first column of the leftmost field that holds nothing legal.
+pub field-refuses : (place : ℕ) (rec : List ℕ) (r : Refusal) → (stage (firstBadField rec) (fieldContent place) Accepted ≡ Refused r)
+    ↔ ((c : ℕ) × (1 ≤ c) × (r ≡ fieldContent place c) × Leftmost rec c (layoutOf (kindOf rec)))
+unfolding firstBadField
+field-refuses place rec = content-refuses (firstBadField rec) (λ c. Leftmost rec c (layoutOf (kindOf rec))) (leftmost-iff (layoutOf (kindOf rec)) rec) place
 
 -- a group of companions in front of others
 odd-front : (f g h : Field) (rec : List ℕ) (rest : ℕ) → eqb (f .0) 0 ≡ false → eqb (g .0) 0 ≡ false → eqb (h .0) 0 ≡ false
@@ -155,19 +167,19 @@ needed-refuses place rec =
 
 -- A record read alone is refused exactly by the first in its order.
 pub read-first : (s : List ℕ) (r : Refusal) → (readingOf s .verdict ≡ Refused r) ↔ First r (readOrder s)
-unfolding alone
+unfolding alone judged
 read-first s = by-order (readOrder s) (reading-verdict s ∙ alone-order)
   where
     alone-order : alone s ≡ inTurn (readOrder s)
-    alone-order = ap (stage (sizeColumn s) (cutShort 1)) (judged-order 1 (columnsOf s)) ∙ stage-turn (sizeColumn s) (cutShort 1) (recordOrder 1 (columnsOf s))
+    alone-order = ap (stage (sizeColumn s) (cutShort 1)) (judged-order (badByte (columnsOf s)) 1 (columnsOf s)) ∙ stage-turn (sizeColumn s) (cutShort 1) (recordOrder (badByte (columnsOf s)) 1 (columnsOf s))
 
 -- What parts make is written, or refused by the first in its order.
 pub write-first : (lent : ℕ) (rec : List ℕ) (r : Refusal) → (writing lent rec ≡ Refused r) ↔ First r (writeOrder lent rec)
-unfolding writing roomStage inTurn
+unfolding writing judgedParts roomStage inTurn
 write-first lent rec = by-order (writeOrder lent rec) writing-order
   where
     writing-order : writing lent rec ≡ inTurn (writeOrder lent rec)
-    writing-order = split (ltb lent 133) (λ t. rw t) (λ t. rw t (judged-order 0 rec))
+    writing-order = split (ltb lent 133) (λ t. rw t) (λ t. rw t (judged-order (firstBadField rec) 0 rec))
 
 -- ---- a file
 

@@ -10,8 +10,9 @@ use Rattle.digits.specs.Decimal.{digitsBy, decimal}
 use Rattle.columns.specs.ByteSets.{fits}
 use Rattle.columns.specs.Patterns.{codes, fitsAll}
 use Rattle.columns.specs.Rows.{stands, matches, firstOf}
+use Rattle.columns.specs.Stops.{run, longest}
 use Rattle.columns.specs.Layout.{primary, continuation}
-use Rattle.columns.specs.Kinds.{kindOf, layoutOf, firstBadField}
+use Rattle.columns.specs.Kinds.{kindOf, layoutOf, badByte}
 use Rattle.digits.specs.Digits.{value}
 use Rattle.columns.specs.Samples.{_at_is_, approach, full, notes}
 use Rattle.leg.specs.Terminator.{inOrder, terminatorAt, terminatorOf, needs, needed, among, endsAtFix, isHolding, nameOf, terminatorNumber}
@@ -44,5 +45,5 @@ use Rattle.statements.specs.Starred.{Meets, starred, leg, departure, onl
 
 -- Every row is met. The definitions that the rows come down to are opened, so that they compute.
 pub cases : Every Meets starred
-unfolding starred full notes approach _at_is_ codes leg departure only frozen line replaced log unended lines readingOf legReading continuationReading refusedReading alone sizeColumn legOf altitudeOf distanceOf feetOf isHolding value judged judgedLeg stage companionColumn oddOne neededColumn neededOf missing blank member part terminatorOf terminatorAt inOrder terminatorNumber nameOf among endsAtFix needed needs firstAt equal order firstBadField layoutOf kindOf firstOf matches stands fitsAll fits primary continuation fileVerdict sizeStage tailStage tailColumn inTurn leading records pieces behindRecords walked walkFrom finished last judgedNext primaryAfter continuationStage continuationColumn awaits orderStage sequenceStage legStage legStands endingStage followed endsRoute firstLeg lastLeg mayBegin mayEnd kindNumber kindAt ofKind routeKinds named pair readable mark page oldPair onlyFirst followsFix bind pickOf opened lengthStage readLog read lineOf whole reach heading change digitsBy decimal wantedStage carried takenOf wants membersFrom leadingLines byCorrection ran corrected linesApplied lineApplied touched together touchedJudged withSource withoutRecord countBefore notBefore hasPlace isRecord putAt leftOut recordAt recordWithin inUse sourcesOf sourcesFor sourcesTo starts placeOf operation operations closureTo addRelied lastOn numbered add touches? routeOfOp same? ℕ-discrete
+unfolding starred full notes approach _at_is_ codes leg departure only frozen line replaced log unended lines readingOf legReading continuationReading refusedReading alone sizeColumn legOf altitudeOf distanceOf feetOf isHolding value judged judgedLeg stage companionColumn oddOne neededColumn neededOf missing blank member part terminatorOf terminatorAt inOrder terminatorNumber nameOf among endsAtFix needed needs firstAt equal order badByte run longest layoutOf kindOf firstOf matches stands fitsAll fits primary continuation fileVerdict sizeStage tailStage tailColumn inTurn leading records pieces behindRecords walked walkFrom finished last judgedNext primaryAfter continuationStage continuationColumn awaits orderStage sequenceStage legStage legStands endingStage followed endsRoute firstLeg lastLeg mayBegin mayEnd kindNumber kindAt ofKind routeKinds named pair readable mark page oldPair onlyFirst followsFix bind pickOf opened lengthStage readLog read lineOf whole reach heading change digitsBy decimal wantedStage carried takenOf wants membersFrom leadingLines byCorrection ran corrected linesApplied lineApplied touched together touchedJudged withSource withoutRecord countBefore notBefore hasPlace isRecord putAt leftOut recordAt recordWithin inUse sourcesOf sourcesFor sourcesTo starts placeOf operation operations closureTo addRelied lastOn numbered add touches? routeOfOp same? ℕ-discrete
 cases = (refl, (refl, (refl, (refl, (refl, (refl, (refl, (refl, (refl, (refl, (refl, (refl, (refl, (refl, (refl, (refl, (refl, (refl, (refl, (refl, (refl, (refl, (refl, (refl, (refl, (refl, (refl, (refl, tt))))))))))))))))))))))))))))

@@ -143,10 +143,16 @@ unique-kind-of κs a x y v w p q = (p ∙ sym q, refl)
 pub unique-first-bad : Determined columns.first_bad.Kinds.ps columns.first_bad.Kinds.r columns.first_bad.Reads.Post
 unique-first-bad κs a x y v w p q = (p ∙ sym q, refl)
 
+pub unique-bad-byte : Determined columns.bad_byte.Kinds.ps columns.bad_byte.Kinds.r columns.bad_byte.Reads.Post
+unique-bad-byte κs a x y v w p q = (p ∙ sym q, refl)
+
 -- ---- leg
 
 pub unique-judge : Determined leg.judge.Kinds.ps leg.judge.Kinds.r leg.judge.Reads.Post
 unique-judge κs a x y v w p q = (p ∙ sym q, refl)
+
+pub unique-judge-parts : Determined leg.judge_parts.Kinds.ps leg.judge_parts.Kinds.r leg.judge_parts.Reads.Post
+unique-judge-parts κs a x y v w p q = (p ∙ sym q, refl)
 
 pub unique-terminator-column : Determined leg.terminator.Terminator.column.Kinds.ps leg.terminator.Terminator.column.Kinds.r leg.terminator.Terminator.column.Reads.Post
 unique-terminator-column κs a x y v w p q = (p ∙ sym q, refl)

@@ -18,7 +18,7 @@ use Rattle.refusals.specs.declared.Verdict.the-variants.{Accepted, Refused}
 use Rattle.slices.specs.Part.{blank}
 use Rattle.columns.specs.Rows.{byteIn}
 use Rattle.columns.specs.Fields.{field, bytesIn}
-use Rattle.columns.specs.Kinds.{kindOf, firstBadField}
+use Rattle.columns.specs.Kinds.{kindOf, firstBadField, badByte}
 use Rattle.columns.specs.Words.{columns}
 use Rattle.leg.specs.Terminator.{terminatorOf}
 use Rattle.leg.specs.Stages.{oddOne, companionColumn, needable, asks, neededColumn}
@@ -35,10 +35,11 @@ use Rattle.selection.specs.Pick.{lengthStage, wantedStage, everything, outcomeV
 
 -- ---- a record
 
--- "3, 4, 5 .. in number order", "A continuation has no stage 4, 5, 7 or 8". Each gives a column, and none where it finds nothing.
-abbrev pub recordOrder : (place : ℕ) → List ℕ → List Verdict
-recordOrder place rec =
-    stage (firstBadField rec) (fieldContent place) Accepted ∷
+-- "3, 4, 5 .. in number order", "A continuation has no stage 4, 5, 7 or 8". Each gives a column, and none where it finds nothing; that of 3
+-- is another where a record is read than where parts make it.
+abbrev pub recordOrder : (bad place : ℕ) → List ℕ → List Verdict
+recordOrder bad place rec =
+    stage bad (fieldContent place) Accepted ∷
     byKind (kindOf rec) (stage (companionColumn rec) (companionBlank place) Accepted) ∷
     byKind (kindOf rec) (stage (neededColumn rec) (neededBlank place) Accepted) ∷
     []
@@ -60,16 +61,18 @@ abbrev pub neededOrder : (place : ℕ) → List ℕ → List Verdict
 neededOrder place rec = map (neededStage place rec (asks (terminatorOf (columns 48 49 rec)) (eqb (byteIn 83 rec) (code "B")))) needable
 
 -- "One record read alone is 133 bytes, place 1; a longer one gives 1 at column 134, if byte 133 is a line feed; then 3, 4, 5."
+-- Request 2026-04: 3 at the bad byte.
 abbrev pub readOrder : List ℕ → List Verdict
-readOrder s = stage (sizeColumn s) (cutShort 1) Accepted ∷ recordOrder 1 (columnsOf s)
+readOrder s = stage (sizeColumn s) (cutShort 1) Accepted ∷ recordOrder (badByte (columnsOf s)) 1 (columnsOf s)
 
 -- 14: fewer bytes are lent than have to be
 unfoldable pub roomStage : (needed lent : ℕ) → Verdict
 roomStage needed lent = cond (ltb lent needed) (Refused bufferTooShort) Accepted
 
 -- "Writing parts: 14, then 3, 4, 5", of the record that the parts make; "When writing, the place is 0".
+-- Request 2026-04: "writing from parts keeps the field's first column".
 abbrev pub writeOrder : (lent : ℕ) → List ℕ → List Verdict
-writeOrder lent rec = roomStage 133 lent ∷ recordOrder 0 rec
+writeOrder lent rec = roomStage 133 lent ∷ recordOrder (firstBadField rec) 0 rec
 
 -- ---- a file
 

@@ -128,12 +128,12 @@ unfoldable pub starred : List Row
 starred =
     read (full at 85 is "FL180") (altitudeIs (Level (record { 0 = 180 }))) ∷
     read (full at 85 is "-0120") (feetAre (negsuc 119)) ∷  -- -120
-    read (full at 85 is "-0000") (refused 3 85) ∷
-    read (full at 85 is " 1500") (refused 3 85) ∷
+    read (full at 85 is "-0000") (refused 3 89) ∷
+    read (full at 85 is " 1500") (refused 3 86) ∷
     read (full at 71 is "3600") good ∷
-    read (full at 71 is "3601") (refused 3 71) ∷
+    read (full at 71 is "3601") (refused 3 74) ∷
     read (full at 71 is "360T") good ∷
-    read (full at 71 is "361T") (refused 3 71) ∷
+    read (full at 71 is "361T") (refused 3 73) ∷
     read (full at 48 is "HM" at 75 is "T010") (distanceIs (Minutes (record { 0 = 10 }))) ∷  -- tenths of a minute
     read (full at 48 is "CF" at 75 is "T010") (refused 3 75) ∷
     checked (lines (leg "010" "IF" ∷ leg "020" "TF" ∷ [])) Accepted ∷
@@ -144,10 +144,10 @@ starred =
     read (full at 129 is "2013") good ∷
     read (full at 129 is "2014") good ∷
     read (full at 129 is "9814") good ∷
-    read (full at 129 is "2114") (refused 3 129) ∷
+    read (full at 129 is "2114") (refused 3 132) ∷
     read (notes at 129 is "2014") good ∷
     read (notes at 129 is "9814") good ∷
-    read (notes at 129 is "2114") (refused 3 129) ∷
+    read (notes at 129 is "2114") (refused 3 132) ∷
     pick frozen log (5 ∷ []) (takes (1 ∷ 3 ∷ 5 ∷ []) 3) ∷
     pick frozen log (4 ∷ 4 ∷ []) (takes (2 ∷ 4 ∷ []) 3) ∷
     pick frozen log [] (takes [] 3) ∷

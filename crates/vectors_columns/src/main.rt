@@ -1,4 +1,5 @@
-// For each line of records.txt: which kind of record it is, and the first column of its leftmost field that holds nothing legal, or 0.
+// For each line of records.txt: which kind of record it is, the first column of its leftmost field that holds nothing legal, and the column
+// of the bad byte in it, or 0 and 0.
 // At most 65,536 bytes are read. The lines are the records of the worked vectors that crates/columns proves; they and what is to be printed
 // are made by the program in reference/.
 use columns::Kind;
@@ -14,8 +15,11 @@ fn print_kind(rec: &[u8]) -> bool {
 
 fn print_answer(rec: &[u8]) {
     print_kind(rec);
-    let column = columns::first_bad(rec);
-    io::print_decimal(STDOUT_FILENO, column as u64);
+    let field = columns::first_bad(rec);
+    io::print_decimal(STDOUT_FILENO, field as u64);
+    io::write_all(STDOUT_FILENO, b"\t");
+    let byte = columns::bad_byte(rec);
+    io::print_decimal(STDOUT_FILENO, byte as u64);
     io::write_all(STDOUT_FILENO, b"\n");
 }
 

@@ -687,6 +687,13 @@ fn print_fourteenth_writes(leg: Leg) {
     try_leg(44, with_cycle(leg, 21, 14));
 }
 
+// A number of three digits for a cycle: its byte 0 is not in the first column of the field.
+fn print_long_cycle_write(leg: Leg) {
+    let tail = leg.tail;
+    let cycle = tail.cycle;
+    try_leg(45, with_cycle(leg, cycle.year, 100));
+}
+
 fn print_leg_writes(leg: Leg) {
     print_number_writes(leg);
     print_distance_writes(leg);
@@ -699,6 +706,7 @@ fn print_leg_writes(leg: Leg) {
     print_faults_write(leg);
     print_number_write(leg);
     print_fourteenth_writes(leg);
+    print_long_cycle_write(leg);
 }
 
 fn continuation_with_cycle(base: Continuation, year: u32, number: u32) -> Continuation {
@@ -710,20 +718,20 @@ fn continuation_with_cycle(base: Continuation, year: u32, number: u32) -> Contin
 
 // The second record's parts, written with each change.
 fn print_continuation_writes(base: Continuation, bytes: [u8; 83]) {
-    try_continuation(45, base, bytes);
+    try_continuation(46, base, bytes);
     let mut continuation = base;
     let mut head = continuation.head;
     head.sequence = 0;
     continuation.head = head;
-    try_continuation(46, continuation, bytes);
+    try_continuation(47, continuation, bytes);
     let mut content = bytes;
     content[41] = 31;
-    try_continuation(47, base, content);
+    try_continuation(48, base, content);
     let mut continuation = base;
     continuation.number = b'1';
-    try_continuation(48, continuation, bytes);
-    try_continuation(49, continuation_with_cycle(base, 20, 14), bytes);
-    try_continuation(50, continuation_with_cycle(base, 21, 14), bytes);
+    try_continuation(49, continuation, bytes);
+    try_continuation(50, continuation_with_cycle(base, 20, 14), bytes);
+    try_continuation(51, continuation_with_cycle(base, 21, 14), bytes);
 }
 
 fn print_writes(case: &[u8]) {

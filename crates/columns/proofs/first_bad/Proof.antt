@@ -1,41 +1,15 @@
--- The kind chooses the layout. Assumes nothing.
+-- The answer that aims at the field, by its first column. Assumes nothing.
 use borrow.Author.Needs.{needs}
-use mathlib.Core.Path.{sym, _∙_}
-use Rattle.columns.specs.Kinds.{firstBadField, layoutOf}
+use Rattle.columns.specs.Kinds.{firstBadField}
 use Rattle.columns.proofs.first_bad.Statement.{statement}
 use Rattle.columns.proofs.first_bad.Tie as tie
 
-kind-of-requires : tie.Need-kind-of-requires
-kind-of-requires c κs = search needs
-
-enum-told : tie.Need-enum-told
-enum-told c = search needs
-
-first-bad-of-primary-requires : tie.Need-first-bad-of-primary-requires
-first-bad-of-primary-requires c κs = search needs
-
-enum-told-2 : tie.Need-enum-told-2
-enum-told-2 c = search needs
-
-first-bad-of-continuation-requires : tie.Need-first-bad-of-continuation-requires
-first-bad-of-continuation-requires c κs = search needs
+first-bad-of-requires : tie.Need-first-bad-of-requires
+first-bad-of-requires c κs = search needs
 
 returns : tie.Need-returns
-unfolding firstBadField layoutOf
-returns c = c .first-bad-of-primary .ensures ∙ rw (sym (c .before .before .before .kind-of .ensures) ∙ c .before .enum-told .given .1)
-
-returns-2 : tie.Need-returns-2
-unfolding firstBadField layoutOf
-returns-2 c = c .first-bad-of-continuation .ensures ∙ rw (sym (c .before .before .before .kind-of .ensures) ∙ c .before .enum-told2 .given .1)
+unfolding firstBadField
+returns c = c .first-bad-of .ensures
 
 pub first-bad-spec : {M : Type 1} → statement M
-first-bad-spec =
-    tie.close
-    (tie.spec
-    kind-of-requires
-    enum-told
-    first-bad-of-primary-requires
-    enum-told-2
-    first-bad-of-continuation-requires
-    returns
-    returns-2)
+first-bad-spec = tie.close (tie.spec first-bad-of-requires returns)

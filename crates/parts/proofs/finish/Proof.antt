@@ -20,11 +20,11 @@ returns c =
     let r = c .before .before .refuse .ensures in
     finish-short _ _ (c .before .before .before .before .before .if1 .taken) (r .0 ∙ ap Refused (c .before .before .before .before .buffer-too-short .ensures)) (r .1)
 
-slice-aggregate-judge : tie.Need-slice-aggregate-judge
-slice-aggregate-judge c = search needs
+slice-aggregate-judge-parts : tie.Need-slice-aggregate-judge-parts
+slice-aggregate-judge-parts c = search needs
 
-judge-requires : tie.Need-judge-requires
-judge-requires c κs = search needs
+judge-parts-requires : tie.Need-judge-parts-requires
+judge-parts-requires c κs = search needs
 
 enum-told : tie.Need-enum-told
 enum-told c = search needs
@@ -60,7 +60,7 @@ returns-2 c =
     let c17 = c15 .before .before in
     let start = c17 .before .before in
     let room = c17 .if1 .left in
-    finish-accepted _ _ room (c15 .judge .ensures) (c13 .enum-told .given .1)
+    finish-accepted _ _ room (c15 .judge-parts .ensures) (c13 .enum-told .given .1)
     (with-feed (start .args .t1) _ (search needs) room _ _ (c10 .copy .ensures) (c6 .put-after .ensures) (c2 .clear-from .ensures))
 
 same-length-3 : tie.Need-same-length-3
@@ -71,7 +71,7 @@ returns-3 c =
     let c5 = c .before .before .before .before .before in
     let c7 = c5 .before .before in
     let r = c .before .before .refuse2 .ensures in
-    finish-refused _ _ (c7 .before .before .if1 .left) (c7 .judge .ensures) (c5 .verdict .given .1) (r .0) (r .1)
+    finish-refused _ _ (c7 .before .before .if1 .left) (c7 .judge-parts .ensures) (c5 .verdict .given .1) (r .0) (r .1)
 
 pub finish-spec : {M : Type 1} → statement M
 finish-spec =
@@ -81,8 +81,8 @@ finish-spec =
     refuse-requires
     same-length
     returns
-    slice-aggregate-judge
-    judge-requires
+    slice-aggregate-judge-parts
+    judge-parts-requires
     enum-told
     slice-aggregate-copy
     copy-requires

@@ -5,20 +5,21 @@ use mathlib.Core.Path.{_≡_, sym, _∙_}
 use Prim.Native.Nat.{_≤_, _<_, _-_, _+_, _*_}
 use Rattle.columns.proofs.Turns.{small, rowsLeft, rows-start, rows-go, rows-bad, rows-end}
 use Rattle.columns.specs.Table.{decode}
-use Rattle.columns.specs.Rows.{columnOf, firstBad}
+use Rattle.columns.specs.Rows.{firstOf}
+use Rattle.columns.specs.Stops.{answerOf}
 use Rattle.columns.proofs.matcher.first_bad_by.Statement.{statement}
 use Rattle.columns.proofs.matcher.first_bad_by.Tie as tie
 
 abbrev Inv-loop : tie.InvT-loop
-Inv-loop t rec rows p₀ at₀ i₀ p at i =
+Inv-loop t rec aim rows p₀ at₀ i₀ p at i =
     (rows < 256)
     × (i ≤ rows)
     × (p ≤ 1 + 66000 * i)
     × (at ≤ 255 * i)
-    × (firstBad (decode t) rec ≡ rowsLeft columnOf t rec rows p at i)
+    × (firstOf (answerOf aim) (decode t) rec ≡ rowsLeft (answerOf aim) t rec rows p at i)
 
 abbrev μ-loop : tie.MeasureT-loop
-μ-loop t rec rows p₀ at₀ i₀ p at i = rows - i
+μ-loop t rec aim rows p₀ at₀ i₀ p at i = rows - i
 
 byte-at-requires : tie.Need-byte-at-requires Inv-loop μ-loop
 byte-at-requires c κs = search needs
@@ -27,7 +28,7 @@ cast-rows : tie.Need-cast-rows Inv-loop μ-loop
 cast-rows c = search needs
 
 loop-holds : tie.Need-loop-holds Inv-loop μ-loop
-loop-holds c = (search needs, search needs, search needs, search needs, rows-start columnOf _ _ _ (c .byte-at .ensures))
+loop-holds c = (search needs, search needs, search needs, search needs, rows-start _ _ _ _ (c .byte-at .ensures))
 
 byte-at-requires-2 : tie.Need-byte-at-requires-2 Inv-loop μ-loop
 byte-at-requires-2 c κs = search needs
@@ -80,22 +81,22 @@ loop-again c =
       omega (arith, small (reads .byte-at3 .result) (reads .before .byte-at2 .result) (search needs) (search needs)),
       search needs,
       turn .before .loop .inv .4
-          ∙ rows-go columnOf _ _ _ _ _ _ (turn .loop-test .taken) (reads .before .byte-at2 .ensures) (reads .byte-at3 .ensures) (c .before .fits-row .ensures) (c .if1 .taken),
+          ∙ rows-go _ _ _ _ _ _ _ (turn .loop-test .taken) (reads .before .byte-at2 .ensures) (reads .byte-at3 .ensures) (c .before .fits-row .ensures) (c .if1 .taken),
     )
 
-add-result : tie.Need-add-result Inv-loop μ-loop
-add-result c = search needs
+answer-of-requires : tie.Need-answer-of-requires Inv-loop μ-loop
+answer-of-requires c κs = search needs
 
 returns : tie.Need-returns Inv-loop μ-loop
 returns c =
-    let turn = c .before .before .before .before in
-    let reads = c .before .before in
-    sym
-    (turn .before .loop .inv .4
-    ∙ rows-bad columnOf _ _ _ _ _ _ (turn .loop-test .taken) (reads .before .byte-at2 .ensures) (reads .byte-at3 .ensures) (c .before .fits-row .ensures) (c .if1 .left))
+    let bad = c .before in
+    let turn = bad .before .before .before .before in
+    let reads = bad .before .before in
+    rows-bad _ _ _ _ _ _ _ (turn .loop-test .taken) (reads .before .byte-at2 .ensures) (reads .byte-at3 .ensures) (bad .before .fits-row .ensures)
+    (turn .before .loop .inv .4) (bad .if1 .left) (c .answer-of .ensures)
 
 returns-2 : tie.Need-returns-2 Inv-loop μ-loop
-returns-2 c = sym (c .before .loop .inv .4 ∙ rows-end columnOf _ _ _ _ _ _ (c .loop-test .left))
+returns-2 c = sym (c .before .loop .inv .4 ∙ rows-end _ _ _ _ _ _ _ (c .loop-test .left))
 
 pub first-bad-by-spec : {M : Type 1} → statement M
 first-bad-by-spec =
@@ -121,6 +122,6 @@ first-bad-by-spec =
     add-i
     loop-less
     loop-again
-    add-result
+    answer-of-requires
     returns
     returns-2)

@@ -4,7 +4,8 @@ use mathlib.Core.Path.{sym, ap, _∙_}
 use mathlib.Core.List.{List}
 use Rattle.columns.proofs.Tied.{tied}
 use Rattle.columns.specs.Layout.{primary}
-use Rattle.columns.specs.Rows.{Row, firstBad}
+use Rattle.columns.specs.Rows.{Row, firstOf}
+use Rattle.columns.specs.Stops.{answerOf}
 use Rattle.columns.specs.Table.{encode}
 use Rattle.columns.proofs.tables.first_bad_of_primary.Statement.{statement}
 use Rattle.columns.proofs.tables.first_bad_of_primary.Tie as tie
@@ -17,7 +18,7 @@ first-bad-by-requires c κs = search needs
 
 returns : tie.Need-returns
 unfolding primary encode
-returns c = c .first-bad-by .ensures ∙ ap (λ (rs : List Row). firstBad rs (c .before .before .before .args .rec .now)) (sym tied)
+returns c = c .first-bad-by .ensures ∙ ap (λ (rs : List Row). firstOf (answerOf (c .before .before .before .args .aim)) rs (c .before .before .before .args .rec .now)) (sym tied)
 
 pub first-bad-of-primary-spec : {M : Type 1} → statement M
 first-bad-of-primary-spec =
