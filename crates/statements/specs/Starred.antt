@@ -121,8 +121,8 @@ log =
 unfoldable pub unended : List ℕ
 unended = line "C" (codes "1") (line "D" (only "P" "0") (line "A" (only "P" "1" at 48 is "VI") []))
 
--- ---- the table: the paper's cases in its order, with the cycles, which it does not star, in a leg and in a continuation; and last legs, in a
--- file and after a correction
+-- ---- the table: the paper's cases in its order, 3 at the bad byte, as request 2026-04 has it; with the cycles, which the paper does not star, in a
+-- leg and in a continuation; and last legs, in a file and after a correction
 
 unfoldable pub starred : List Row
 starred =
