@@ -34,6 +34,6 @@ judgedBy column place rec = stage column (fieldContent place) (byKind (kindOf re
 unfoldable pub judged : ℕ → List ℕ → Verdict
 judged place rec = judgedBy (badByte rec) place rec
 
--- a record that parts make: 3 at the first column of the field, since the bytes in it are nobody's
+-- a record that parts make: 3 at the first column of the field, since the caller gave a part, and no bytes
 unfoldable pub judgedParts : ℕ → List ℕ → Verdict
 judgedParts place rec = judgedBy (firstBadField rec) place rec
