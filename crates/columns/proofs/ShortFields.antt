@@ -3,26 +3,31 @@
 -- Assumes nothing.
 use mathlib.Core.Path.{_≡_, refl, sym, ap, subst, _∙_}
 use mathlib.Core.Logic.{⊎-elim}
-use mathlib.Core.Bool.{Bool, true, false, cond, not, _&&_, _||_, false≢true}
+use mathlib.Core.Bool.{Bool, true, false, not, _||_, false≢true}
 use mathlib.Core.List.{List, [], _∷_, _++_, List·Memᴰ, append-assoc}
 use Prim.Native.Nat.{ℕ, _+_, _<_}
 use native.Mathlib.Omega.{arith}
 use native.Mathlib.Decide.{decLt}
-use lib.Dec.{eqb, ltb}
+use lib.Dec.{eqb, leb}
 use lib.ListN.{length, length-append}
-use borrow.Author.Tests.{eqb-true}
+use borrow.Author.Tests.{eqb-true, lt-leb}
+use Rattle.slices.specs.Part.{member}
 use Rattle.slices.proofs.Cases.{is-false, and-left, and-right, either}
-use Rattle.slices.proofs.EveryLaws.{every}
+use Rattle.slices.proofs.EveryLaws.{every, each-among}
 use Rattle.columns.specs.ByteSets.{fits}
 use Rattle.columns.specs.Patterns.{fitsAll}
 use Rattle.columns.specs.Rows.{Alternative, Row, stands, alternativeOk, matches, fieldAt}
-use Rattle.columns.specs.Stops.{longest, stopOf, Begins}
+use Rattle.columns.specs.Stops.{longest, stopOf, Begins, FilledOrBlank, textColumns}
 use Rattle.columns.specs.Layout.{primary, continuation}
 use Rattle.columns.specs.Kinds.{kindOf, layoutOf, firstBadField, badByte}
+use Rattle.columns.specs.declared.Kind.{Kind}
+use Rattle.columns.specs.declared.Kind.the-variants.{Primary, Continuation}
 use Rattle.columns.proofs.PatternLaws.{plain-iff}
 use Rattle.columns.proofs.RowLaws.{leftmost-iff, after}
 use Rattle.columns.proofs.StopLaws.{begins-reached, reached-begins, leftmost-row}
 use Rattle.columns.proofs.Tiled.{layout-tiles}
+
+-- ---- which fields are filled or blank
 
 -- no blank fits one of the letters; or a blank alone fits the first
 abbrev noBlank : List ℕ → Bool
@@ -34,25 +39,6 @@ blankFirst (c ∷ p) = eqb c 32
 
 abbrev filledUp : Alternative → Bool
 filledUp a = blankFirst (a .letters) || noBlank (a .letters)
-
--- so what a row allows has no blank, or a blank to begin with
-unfoldable pub filledOrBlank : Row → Bool
-filledOrBlank r = every filledUp (r .alternatives)
-
--- the fields that are such, by their first columns, those of one column left out: all but text
-unfoldable pub filledColumns : List Row → List ℕ
-filledColumns [] = []
-filledColumns (r ∷ rs) = cond (ltb 1 (r .width) && filledOrBlank r) (r .column ∷ filledColumns rs) (filledColumns rs)
-
-pub filled-fields : filledColumns primary ≡ 11 ∷ 27 ∷ 35 ∷ 45 ∷ 48 ∷ 55 ∷ 57 ∷ 63 ∷ 67 ∷ 71 ∷ 75 ∷ 81 ∷ 85 ∷ 90 ∷ 95 ∷ 100 ∷ 103 ∷ 113 ∷ 121 ∷ 124 ∷ 129 ∷ []
-unfolding filledColumns filledOrBlank every fits primary
-filled-fields = refl
-
-pub filled-fields-of-continuation : filledColumns continuation ≡ 11 ∷ 27 ∷ 35 ∷ 124 ∷ 129 ∷ []
-unfolding filledColumns filledOrBlank every fits continuation
-filled-fields-of-continuation = refl
-
--- ---- a blank behind another byte is not allowed there
 
 never-blank : (p front others : List ℕ) → noBlank p ≡ true → fitsAll p (front ++ 32 ∷ others) ≡ true → ⊥
 unfolding every fitsAll
@@ -72,22 +58,37 @@ no-blank-behind (c ∷ p) b front others n h e =
     (λ x. never-blank (c ∷ p) (b ∷ front) others x e)
     (either (eqb c 32) (noBlank (c ∷ p)) h)
 
-module _ (rec : List ℕ) (b : ℕ) (front others : List ℕ) (n : b ≡ 32 → ⊥) where
-  not-allowed : (alts : List Alternative) → every filledUp alts ≡ true → matches alts rec ((b ∷ front) ++ 32 ∷ others) ≡ true → ⊥
-  unfolding every matches
-  not-allowed [] h e = false≢true e
-  not-allowed (a ∷ alts) h e =
-      ⊎-elim
-      (λ x.
-      no-blank-behind (a .letters) b front others n (and-left (filledUp a) (every filledUp alts) h)
-      (and-right (stands (a .guard) (a .holds) rec) (fitsAll (a .letters) ((b ∷ front) ++ 32 ∷ others)) x))
-      (not-allowed alts (and-right (filledUp a) (every filledUp alts) h))
-      (either (alternativeOk a rec ((b ∷ front) ++ 32 ∷ others)) (matches alts rec ((b ∷ front) ++ 32 ∷ others)) e)
+filled-up : (alts : List Alternative) → every filledUp alts ≡ true → FilledOrBlank alts
+unfolding every matches
+filled-up [] h rec b front others n e = false≢true e
+filled-up (a ∷ alts) h rec b front others n e =
+    ⊎-elim
+    (λ x.
+    no-blank-behind (a .letters) b front others n (and-left (filledUp a) (every filledUp alts) h)
+    (and-right (stands (a .guard) (a .holds) rec) (fitsAll (a .letters) ((b ∷ front) ++ 32 ∷ others)) x))
+    (filled-up alts (and-right (filledUp a) (every filledUp alts) h) rec b front others n)
+    (either (alternativeOk a rec ((b ∷ front) ++ 32 ∷ others)) (matches alts rec ((b ∷ front) ++ 32 ∷ others)) e)
+
+-- one column can't have a blank behind another byte
+fine : Row → Bool
+fine r = leb (r .width) 1 || (member (r .column) textColumns || every filledUp (r .alternatives))
+
+layout-fine : (k : Kind) → every fine (layoutOf k) ≡ true
+unfolding fine every member fits layoutOf primary continuation
+layout-fine Primary = refl
+layout-fine Continuation = refl
+
+-- Every field of more than one column, but text and a continuation's content, is filled to its last column or blank.
+pub filled-fields : (k : Kind) (r : Row) → List·Memᴰ r (layoutOf k) → 1 < r .width → member (r .column) textColumns ≡ false → FilledOrBlank (r .alternatives)
+unfolding fine
+filled-fields k r m w t =
+    let h : fine r ≡ true = each-among fine (layoutOf k) (layout-fine k) r m in
+    filled-up (r .alternatives) (rw (lt-leb (r .width) 1 w, t) at h)
 
 -- ---- so the blank is the bad byte
 
 module _ (rec : List ℕ) (b : ℕ) (front others : List ℕ) (n : b ≡ 32 → ⊥) where
-  short-run : (alts : List Alternative) → every filledUp alts ≡ true → Begins alts rec (b ∷ front)
+  short-run : (alts : List Alternative) → FilledOrBlank alts → Begins alts rec (b ∷ front)
       → longest alts rec ((b ∷ front) ++ 32 ∷ others) ≡ length (b ∷ front)
   short-run alts h g = by (decLt (length (b ∷ front)) (longest alts rec ((b ∷ front) ++ 32 ∷ others)))
     where
@@ -99,15 +100,15 @@ module _ (rec : List ℕ) (b : ℕ) (front others : List ℕ) (n : b ≡ 32 → 
           let l = length-append (b ∷ front) (32 ∷ []) in
           let m = subst (λ (f : List ℕ). length (b ∷ front) < longest alts rec f) cut k in
           let o = reached-begins rec others alts ((b ∷ front) ++ 32 ∷ []) (omega (arith, l)) (omega (arith, l, m)) in
-          absurd (not-allowed rec b front (o .0) n alts h (ap (matches alts rec) (sym (append-assoc (b ∷ front) (32 ∷ []) (o .0))) ∙ o .1))
+          absurd (h rec b front (o .0) n (ap (matches alts rec) (sym (append-assoc (b ∷ front) (32 ∷ []) (o .0))) ∙ o .1))
       by (no k) = let l = begins-reached rec (32 ∷ others) alts (b ∷ front) g in omega (arith, k, l)
 
 -- At every width: where the leftmost bad field is one of these, and holds bytes that begin something legal, the first of them no blank, and then
 -- a blank, that blank is answered.
-pub short-number : (rec : List ℕ) (r : Row) → List·Memᴰ r (layoutOf (kindOf rec)) → filledOrBlank r ≡ true → firstBadField rec ≡ r .column
+pub short-number : (rec : List ℕ) (r : Row) → List·Memᴰ r (layoutOf (kindOf rec)) → FilledOrBlank (r .alternatives) → firstBadField rec ≡ r .column
     → (b : ℕ) (front others : List ℕ) → (b ≡ 32 → ⊥) → fieldAt (r .column) (r .width) rec ≡ (b ∷ front) ++ 32 ∷ others
     → Begins (r .alternatives) rec (b ∷ front) → badByte rec ≡ r .column + length (b ∷ front)
-unfolding badByte firstBadField filledOrBlank
+unfolding badByte firstBadField
 short-number rec r m h e b front others n f g =
     let rs = layoutOf (kindOf rec) in
     let t = layout-tiles (kindOf rec) in

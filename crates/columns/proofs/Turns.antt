@@ -1,11 +1,12 @@
 -- One turn of each loop of the matcher, as an equation between what is left to do before it and after it.
 -- Assumes nothing.
-use mathlib.Core.Path.{_≡_, sym, _∙_}
-use mathlib.Core.Bool.{Bool, true, false, cond, _&&_, _||_}
+use mathlib.Core.Path.{_≡_, refl, sym, ap₂, _∙_}
+use mathlib.Core.Bool.{Bool, true, false, cond, _||_}
 use mathlib.Core.List.{List, [], _∷_}
-use Prim.Native.Nat.{ℕ, suc, _+_, _*_, _-_, _<_, _≤_, suc-le-suc, max}
+use Prim.Native.Nat.{ℕ, suc, _+_, _*_, _-_, _<_, _≤_, suc-le-suc, max, compare·suc-suc, compare·zero-suc}
 use native.Mathlib.Omega.{arith}
 use native.Mathlib.Nat.{sub-zero, zero-add, zero-max, mul-le-mul-left}
+use lib.Dec.{eqb}
 use lib.ListN.{getD, length}
 use Rattle.slices.specs.Part.{part}
 use Rattle.slices.proofs.Cases.{split}
@@ -20,31 +21,7 @@ use Rattle.columns.specs.Table.{alternativeAt, alternativesAt, rowAt, ro
 pub small : (n w : ℕ) → n < 256 → w < 256 → n * (w + 2) ≤ 65535
 small n w hn hw = let h : w + 2 ≤ 257 = omega arith in omega (arith, mul-le-mul-left n h)
 
--- a pattern and a field of w letters, of which k are passed
-pub lettersLeft : List ℕ → List ℕ → ℕ → ℕ → ℕ → ℕ → Bool
-lettersLeft t rec w p at k = fitsAll (part (w - k) (p + k) t) (part (w - k) (at + k) rec)
-
-pub letters-start : (t rec : List ℕ) (w p at : ℕ) → fitsAll (part w p t) (part w at rec) ≡ lettersLeft t rec w p at 0
-unfolding lettersLeft
-letters-start t rec w p at = rw (part-whole w p t, part-whole w at rec)
-
-pub letters-end : (t rec : List ℕ) (w p at k : ℕ) → w ≤ k → lettersLeft t rec w p at k ≡ true
-unfolding lettersLeft fitsAll
-letters-end t rec w p at k h = rw (part-done w p t k h, part-done w at rec k h)
-
-module _ (t rec : List ℕ) (w p at k : ℕ) (h : k < w) {c b : ℕ} {r : Bool}
-    (hc : c ≡ getD t (p + k) 0) (hb : b ≡ getD rec (at + k) 0) (hr : r ≡ fits c b) where
-  letters-step : lettersLeft t rec w p at k ≡ (r && lettersLeft t rec w p at (k + 1))
-  unfolding lettersLeft fitsAll
-  letters-step = rw (part-next w p t k h, part-next w at rec k h, ← hc, ← hb, hr)
-
-  pub letters-go : r ≡ true → lettersLeft t rec w p at k ≡ lettersLeft t rec w p at (k + 1)
-  letters-go e = letters-step ∙ rw e
-
-  pub letters-stop : r ≡ false → lettersLeft t rec w p at k ≡ false
-  letters-stop e = letters-step ∙ rw e
-
--- how far the bytes go along it
+-- how far the bytes go along a pattern of w letters, of which k are passed
 pub runLeft : List ℕ → List ℕ → ℕ → ℕ → ℕ → ℕ → ℕ
 runLeft t rec w p at k = run (part (w - k) (p + k) t) (part (w - k) (at + k) rec)
 
@@ -67,6 +44,19 @@ module _ (t rec : List ℕ) (w p at k : ℕ) {x : ℕ} (i : x ≡ k + runLeft t 
 
     pub run-stop : r ≡ false → k ≡ x
     run-stop e = let s : runLeft t rec w p at k ≡ 0 = run-step ∙ rw e in omega arith
+
+-- where they go along all of it, they fit it
+fits-run : (p f : List ℕ) → length p ≡ length f → eqb (run p f) (length f) ≡ fitsAll p f
+unfolding run fitsAll
+fits-run [] [] h = refl
+fits-run [] (b ∷ f) h = absurd (omega arith)
+fits-run (c ∷ p) [] h = absurd (omega arith)
+fits-run (c ∷ p) (b ∷ f) h = split (fits c b) (λ e. rw (e, compare·suc-suc) (fits-run p f (omega arith))) (λ e. rw (e, compare·zero-suc))
+
+pub run-all : (t rec : List ℕ) (w p at : ℕ) {r : ℕ} → r ≡ run (part w p t) (part w at rec) → eqb r w ≡ fitsAll (part w p t) (part w at rec)
+run-all t rec w p at h =
+    let l = length-part w at rec in
+    ap₂ eqb h (sym l) ∙ fits-run (part w p t) (part w at rec) (length-part w p t ∙ sym l)
 
 -- an alternative is its pattern where its guard stands, and nothing where it does not
 module _ (t rec : List ℕ) (at p w : ℕ) {x y : ℕ} {g : Bool} (hx : x ≡ getD t p 0) (hy : y ≡ getD t (p + 1) 0) (hg : g ≡ stands x y rec) where

@@ -44,6 +44,15 @@ firstStop = firstOf stopOf
 abbrev pub Begins : List Alternative → List ℕ → List ℕ → Type 0
 Begins alts rec front = (others : List ℕ) × (matches alts rec (front ++ others) ≡ true)
 
+-- what the alternatives allow, in whatever record, is filled to its last column or begins with a blank: none of it has a blank behind a first byte
+-- that is no blank
+abbrev pub FilledOrBlank : List Alternative → Type 0
+FilledOrBlank alts = (rec : List ℕ) (b : ℕ) (front others : List ℕ) → (b ≡ 32 → ⊥) → matches alts rec ((b ∷ front) ++ 32 ∷ others) ≡ true → ⊥
+
+-- the first columns of the fields that are not so: area, airport, procedure, transition, fix, a continuation's content, navaid, centre fix
+abbrev pub textColumns : List ℕ
+textColumns = 2 ∷ 7 ∷ 14 ∷ 21 ∷ 30 ∷ 41 ∷ 51 ∷ 107 ∷ []
+
 -- the bytes of a row's field up to a column
 abbrev pub upToColumn : ℕ → Row → List ℕ → List ℕ
 upToColumn c r rec = fieldAt (r .column) (c - r .column + 1) rec

@@ -11,19 +11,26 @@ use crate::byte_sets::in_set;
 use slices::byte_after;
 use slices::byte_at;
 
-// Whether the w letters of the pattern at p fit the record's bytes from index `at` on.
-fn fits_pattern(t: &[u8], rec: &[u8], at: usize, p: usize, w: usize) -> bool
-    ensures { λ r. ⌜ r ≡ fitsAll (part w p (now (t .entry))) (part w at (now (rec .entry))) ⌝ }
+// How many of the record's bytes from index `at` on fit the letters of the pattern at p, of which there are w.
+fn run_of_pattern(t: &[u8], rec: &[u8], at: usize, p: usize, w: usize) -> usize
+    ensures { λ r. ⌜ r ≡ run (part w p (now (t .entry))) (part w at (now (rec .entry))) ⌝ }
 {
     let mut k = 0;
     while k < w {
         if in_set(byte_after(t, p, k), byte_after(rec, at, k)) {
             k += 1;
         } else {
-            return false;
+            return k;
         }
     }
-    true
+    k
+}
+
+// Whether all w letters of the pattern at p fit.
+fn fits_pattern(t: &[u8], rec: &[u8], at: usize, p: usize, w: usize) -> bool
+    ensures { λ r. ⌜ r ≡ fitsAll (part w p (now (t .entry))) (part w at (now (rec .entry))) ⌝ }
+{
+    run_of_pattern(t, rec, at, p, w) == w
 }
 
 // Whether the record's column holds a byte that fits the letter c. Column 0 stands for no column, and holds whatever is asked.
@@ -63,21 +70,6 @@ fn fits_row(t: &[u8], rec: &[u8], at: usize, w: usize, first: usize, n: usize) -
         j += 1;
     }
     false
-}
-
-// How many of the record's bytes from index `at` on fit the letters of the pattern at p, of which there are w.
-fn run_of_pattern(t: &[u8], rec: &[u8], at: usize, p: usize, w: usize) -> usize
-    ensures { λ r. ⌜ r ≡ run (part w p (now (t .entry))) (part w at (now (rec .entry))) ⌝ }
-{
-    let mut k = 0;
-    while k < w {
-        if in_set(byte_after(t, p, k), byte_after(rec, at, k)) {
-            k += 1;
-        } else {
-            return k;
-        }
-    }
-    k
 }
 
 // The same of the alternative at p; none where it does not stand.

@@ -1,69 +1,14 @@
--- The invariant: the letters that are left decide the answer. Assumes nothing.
+-- It fits where the bytes go along all of it. Assumes nothing.
 use borrow.Author.Needs.{needs}
-use mathlib.Core.Path.{_≡_, sym, _∙_}
-use Prim.Native.Nat.{_≤_, _-_}
-use Rattle.columns.proofs.Turns.{lettersLeft, letters-start, letters-go, letters-stop, letters-end}
-use Rattle.columns.specs.Patterns.{fitsAll}
-use Rattle.slices.specs.Part.{part}
+use Rattle.columns.proofs.Turns.{run-all}
 use Rattle.columns.proofs.matcher.fits_pattern.Statement.{statement}
 use Rattle.columns.proofs.matcher.fits_pattern.Tie as tie
 
-abbrev Inv-loop : tie.InvT-loop
-Inv-loop t rec at p w k₀ k = (k ≤ w) × (fitsAll (part w p t) (part w at rec) ≡ lettersLeft t rec w p at k)
+run-of-pattern-requires : tie.Need-run-of-pattern-requires
+run-of-pattern-requires c κs = search needs
 
-abbrev μ-loop : tie.MeasureT-loop
-μ-loop t rec at p w k₀ k = w - k
-
-loop-holds : tie.Need-loop-holds Inv-loop μ-loop
-loop-holds c = (search needs, letters-start _ _ _ _ _)
-
-byte-after-requires : tie.Need-byte-after-requires Inv-loop μ-loop
-byte-after-requires c κs = search needs
-
-byte-after-requires-2 : tie.Need-byte-after-requires-2 Inv-loop μ-loop
-byte-after-requires-2 c κs = search needs
-
-in-set-requires : tie.Need-in-set-requires Inv-loop μ-loop
-in-set-requires c κs = search needs
-
-add-k : tie.Need-add-k Inv-loop μ-loop
-add-k c = search needs
-
-loop-less : tie.Need-loop-less Inv-loop μ-loop
-loop-less c = search needs
-
-loop-again : tie.Need-loop-again Inv-loop μ-loop
-loop-again c =
-    let turn = c .before .before .before .before in
-    let reads = c .before .before in (
-      search needs,
-      turn .before .loop .inv .1
-          ∙ letters-go _ _ _ _ _ _ (turn .loop-test .taken) (reads .before .byte-after .ensures) (reads .byte-after2 .ensures) (c .before .in-set .ensures) (c .if1 .taken),
-    )
-
-returns : tie.Need-returns Inv-loop μ-loop
-returns c =
-    let turn = c .before .before .before .before in
-    let reads = c .before .before in
-    sym
-    (turn .before .loop .inv .1
-    ∙ letters-stop _ _ _ _ _ _ (turn .loop-test .taken) (reads .before .byte-after .ensures) (reads .byte-after2 .ensures) (c .before .in-set .ensures) (c .if1 .left))
-
-returns-2 : tie.Need-returns-2 Inv-loop μ-loop
-returns-2 c = sym (c .before .loop .inv .1 ∙ letters-end _ _ _ _ _ _ (c .loop-test .left))
+returns : tie.Need-returns
+returns c = run-all _ _ _ _ _ (c .run-of-pattern .ensures)
 
 pub fits-pattern-spec : {M : Type 1} → statement M
-fits-pattern-spec =
-    tie.close
-    (tie.spec
-    Inv-loop
-    μ-loop
-    loop-holds
-    byte-after-requires
-    byte-after-requires-2
-    in-set-requires
-    add-k
-    loop-less
-    loop-again
-    returns
-    returns-2)
+fits-pattern-spec = tie.close (tie.spec run-of-pattern-requires returns)
