@@ -2,16 +2,19 @@
 -- row of paper 01's table has at least one good content and one bad one.
 -- Assumes nothing.
 use mathlib.Core.Path.{_≡_, refl}
-use mathlib.Core.Bool.{Bool, true, _&&_}
-use mathlib.Core.List.{List, [], _∷_, _++_}
+use mathlib.Core.Bool.{Bool, true, cond, _&&_}
+use mathlib.Core.List.{List, [], _∷_, _++_, List·Memᴰ}
 use Prim.Native.Nat.{ℕ, _-_}
 use lib.Dec.{eqb}
 use lib.ListN.{take, set}
+use borrow.Author.Tests.{eqb-true}
 use Rattle.slices.specs.Part.{part}
+use Rattle.slices.proofs.Cases.{split, and-left, and-right}
+use Rattle.slices.proofs.EveryLaws.{every, each-among}
 use Rattle.columns.specs.ByteSets.{fits}
 use Rattle.columns.specs.Patterns.{fitsAll, codes}
-use Rattle.columns.specs.Rows.{stands, matches, firstOf}
-use Rattle.columns.specs.Stops.{run, longest}
+use Rattle.columns.specs.Rows.{Row, stands, matches, rowOk, firstOf, firstBad}
+use Rattle.columns.specs.Stops.{run, longest, stopOf, firstStop}
 use Rattle.columns.specs.Layout.{primary, continuation}
 use Rattle.columns.specs.Kinds.{kindOf, layoutOf, firstBadField, badByte}
 use Rattle.columns.specs.Samples.{_at_is_, approach, notes}
@@ -35,9 +38,37 @@ rec gives c byte b = record { content = rec; field = c; byte = b }
 _gives_ : List ℕ → ℕ → Vector
 rec gives c = rec gives c byte c
 
-right : List Vector → Bool
-right [] = true
-right (v ∷ vs) = eqb (firstBadField (v .content)) (v .field) && (eqb (badByte (v .content)) (v .byte) && right vs)
+Worked : Vector → Type 0
+Worked v = (firstBadField (v .content) ≡ v .field) × (badByte (v .content) ≡ v .byte)
+
+-- Computed in one walk for both columns, since the walks are what takes time: the rows from the first on that is not right, and what that one
+-- answers.
+fromBad : List Row → List ℕ → List Row
+fromBad [] rec = []
+fromBad (r ∷ rs) rec = cond (rowOk r rec) (fromBad rs rec) (r ∷ rs)
+
+answers : List Row → Vector → Bool
+answers [] v = eqb 0 (v .field) && eqb 0 (v .byte)
+answers (r ∷ rs) v = eqb (r .column) (v .field) && eqb (stopOf r (v .content)) (v .byte)
+
+right : Vector → Bool
+right v = answers (fromBad (layoutOf (kindOf (v .content))) (v .content)) v
+
+both-columns : (rs : List Row) (v : Vector) → answers (fromBad rs (v .content)) v ≡ true
+    → (firstBad rs (v .content) ≡ v .field) × (firstStop rs (v .content) ≡ v .byte)
+unfolding answers fromBad firstOf
+both-columns [] v e =
+    let first = eqb 0 (v .field) in
+    let stop = eqb 0 (v .byte) in
+    (eqb-true 0 (v .field) (and-left first stop e), eqb-true 0 (v .byte) (and-right first stop e))
+both-columns (r ∷ rs) v e =
+    split (rowOk r (v .content)) (λ ok. rw ok (both-columns rs v (rw ok at e))) (λ ok. rw ok (found (rw ok at e)))
+  where
+    found : answers (r ∷ rs) v ≡ true → (r .column ≡ v .field) × (stopOf r (v .content) ≡ v .byte)
+    found h =
+        let first = eqb (r .column) (v .field) in
+        let stop = eqb (stopOf r (v .content)) (v .byte) in
+        (eqb-true (r .column) (v .field) (and-left first stop h), eqb-true (stopOf r (v .content)) (v .byte) (and-right first stop h))
 
 -- columns 1 to 38
 ofFront : List Vector
@@ -248,6 +279,14 @@ ofAnySlice =
     approach at 117 holds 255 gives 117 ∷
     []
 
-worked : right (ofFront ++ ofLeg ++ ofBack ++ ofContinuation ++ ofAnySlice) ≡ true
-unfolding ofFront ofLeg ofBack ofContinuation ofAnySlice right _at_is_ _at_holds_ _gives_ _gives_byte_ approach notes firstBadField badByte run longest layoutOf kindOf firstOf matches stands fitsAll fits part primary continuation
-worked = refl
+vectors : List Vector
+vectors = ofFront ++ ofLeg ++ ofBack ++ ofContinuation ++ ofAnySlice
+
+computed : every right vectors ≡ true
+unfolding every right answers fromBad vectors ofFront ofLeg ofBack ofContinuation ofAnySlice _at_is_ _at_holds_ _gives_ _gives_byte_ approach notes run longest layoutOf kindOf matches stands fitsAll fits part primary continuation
+computed = refl
+
+-- Each vector's record is answered by its two columns.
+worked : (v : Vector) → List·Memᴰ v vectors → Worked v
+unfolding Worked right firstBadField badByte
+worked v m = both-columns (layoutOf (kindOf (v .content))) v (each-among right vectors computed v m)
