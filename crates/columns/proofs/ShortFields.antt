@@ -2,17 +2,17 @@
 -- bytes of something legal is the bad byte.
 -- Assumes nothing.
 use mathlib.Core.Path.{_≡_, refl, sym, ap, subst, _∙_}
-use mathlib.Core.Logic.{⊎-elim}
-use mathlib.Core.Bool.{Bool, true, false, not, _||_, false≢true}
+use mathlib.Core.Logic.{_↔_, ⊎-elim}
+use mathlib.Core.Bool.{Bool, true, false, cond, not, _||_, false≢true}
 use mathlib.Core.List.{List, [], _∷_, _++_, List·Memᴰ, append-assoc}
-use Prim.Native.Nat.{ℕ, _+_, _<_}
+use Prim.Native.Nat.{ℕ, _+_, _-_, _<_}
 use native.Mathlib.Omega.{arith}
 use native.Mathlib.Decide.{decLt}
 use lib.Dec.{eqb, leb}
-use lib.ListN.{length, length-append}
+use lib.ListN.{length, replicate, length-append}
 use borrow.Author.Tests.{eqb-true, lt-leb}
 use Rattle.slices.specs.Part.{member}
-use Rattle.slices.proofs.Cases.{is-false, and-left, and-right, either}
+use Rattle.slices.proofs.Cases.{split, is-false, and-left, and-right, either}
 use Rattle.slices.proofs.EveryLaws.{every, each-among}
 use Rattle.columns.specs.ByteSets.{fits}
 use Rattle.columns.specs.Patterns.{fitsAll}
@@ -69,21 +69,32 @@ filled-up (a ∷ alts) h rec b front others n e =
     (filled-up alts (and-right (filledUp a) (every filledUp alts) h) rec b front others n)
     (either (alternativeOk a rec ((b ∷ front) ++ 32 ∷ others)) (matches alts rec ((b ∷ front) ++ 32 ∷ others)) e)
 
--- one column can't have a blank behind another byte
-fine : Row → Bool
-fine r = leb (r .width) 1 || (member (r .column) textColumns || every filledUp (r .alternatives))
+-- an A and blanks behind it, which text may be, and nothing that is filled or blank
+shortText : Row → List ℕ
+shortText r = 65 ∷ 32 ∷ replicate (r .width - 2) 32
 
-layout-fine : (k : Kind) → every fine (layoutOf k) ≡ true
-unfolding fine every member fits layoutOf primary continuation
-layout-fine Primary = refl
-layout-fine Continuation = refl
+-- Tested of each row; of one column there is nothing to say.
+settledRow : Row → Bool
+settledRow r = leb (r .width) 1 || cond (member (r .column) textColumns) (matches (r .alternatives) [] (shortText r)) (every filledUp (r .alternatives))
 
--- Every field of more than one column, but text and a continuation's content, is filled to its last column or blank.
-pub filled-fields : (k : Kind) (r : Row) → List·Memᴰ r (layoutOf k) → 1 < r .width → member (r .column) textColumns ≡ false → FilledOrBlank (r .alternatives)
-unfolding fine
-filled-fields k r m w t =
-    let h : fine r ≡ true = each-among fine (layoutOf k) (layout-fine k) r m in
-    filled-up (r .alternatives) (rw (lt-leb (r .width) 1 w, t) at h)
+layout-settled : (k : Kind) → every settledRow (layoutOf k) ≡ true
+unfolding settledRow shortText every member matches stands fitsAll fits layoutOf primary continuation
+layout-settled Primary = refl
+layout-settled Continuation = refl
+
+-- A field of more than one column is filled to its last column or blank exactly when it is neither text nor a continuation's content.
+pub filled-fields : (k : Kind) (r : Row) → List·Memᴰ r (layoutOf k) → 1 < r .width → FilledOrBlank (r .alternatives) ↔ (member (r .column) textColumns ≡ false)
+unfolding settledRow shortText
+filled-fields k r m w = (
+  λ h. split (member (r .column) textColumns) (λ t. absurd (h [] 65 [] (replicate (r .width - 2) 32) (λ (e : 65 ≡ 32). omega (arith, e)) (rw (wide, t) at tested))) (λ t. t),
+  λ t. filled-up (r .alternatives) (rw (wide, t) at tested),
+)
+  where
+    wide : leb (r .width) 1 ≡ false
+    wide = lt-leb (r .width) 1 w
+
+    tested : settledRow r ≡ true
+    tested = each-among settledRow (layoutOf k) (layout-settled k) r m
 
 -- ---- so the blank is the bad byte
 

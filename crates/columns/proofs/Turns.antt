@@ -1,4 +1,5 @@
--- One turn of each loop of the matcher, as an equation between what is left to do before it and after it.
+-- One turn of each loop of the matcher, as an equation between what is left to do before it and after it; and what the functions around the
+-- loops make of their answers.
 -- Assumes nothing.
 use mathlib.Core.Path.{_≡_, refl, sym, ap₂, _∙_}
 use mathlib.Core.Bool.{Bool, true, false, cond, _||_}

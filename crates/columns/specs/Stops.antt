@@ -49,7 +49,8 @@ Begins alts rec front = (others : List ℕ) × (matches alts rec (front ++ other
 abbrev pub FilledOrBlank : List Alternative → Type 0
 FilledOrBlank alts = (rec : List ℕ) (b : ℕ) (front others : List ℕ) → (b ≡ 32 → ⊥) → matches alts rec ((b ∷ front) ++ 32 ∷ others) ≡ true → ⊥
 
--- the first columns of the fields that are not so: area, airport, procedure, transition, fix, a continuation's content, navaid, centre fix
+-- the first columns of the fields that are not so, as `filled-fields` proves: area, airport, procedure, transition, fix, a continuation's content,
+-- navaid, centre fix
 abbrev pub textColumns : List ℕ
 textColumns = 2 ∷ 7 ∷ 14 ∷ 21 ∷ 30 ∷ 41 ∷ 51 ∷ 107 ∷ []
 

@@ -26,7 +26,7 @@ fn run_of_pattern(t: &[u8], rec: &[u8], at: usize, p: usize, w: usize) -> usize
     k
 }
 
-// Whether all w letters of the pattern at p fit.
+// Whether all w letters of the pattern at p fit the record's bytes from index `at` on.
 fn fits_pattern(t: &[u8], rec: &[u8], at: usize, p: usize, w: usize) -> bool
     ensures { λ r. ⌜ r ≡ fitsAll (part w p (now (t .entry))) (part w at (now (rec .entry))) ⌝ }
 {
