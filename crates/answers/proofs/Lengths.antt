@@ -6,9 +6,11 @@ use Prim.Native.Nat.{ℕ, zero, suc, _+_, _-_, _*_, _≤_, _<_}
 use native.Mathlib.Omega.{arith}
 use lib.ListN.{length, take, replicate, length-append, length-map}
 use lib.Seq.{take-at, length-take-le}
-use lib.Dec.{ltb}
+use mathlib.Core.Bool.{Bool, true, false, cond}
+use lib.Dec.{eqb, ltb}
 use borrow.Author.Tests.{ltb-false}
 use Rattle.slices.proofs.Cases.{split}
+use Rattle.slices.proofs.PartLaws.{length-part}
 use Rattle.refusals.proofs.VerdictLaws.{never}
 use Rattle.refusals.specs.declared.Verdict.{Verdict}
 use Rattle.refusals.specs.declared.Verdict.the-variants.{Accepted, Refused}
@@ -19,13 +21,20 @@ use Rattle.corrections.specs.Reading.{readLog}
 use Rattle.history.specs.Sets.{Numbers}
 use Rattle.refusals.specs.declared.Refusal.{Refusal}
 use Rattle.wanted.specs.Numbers.{numbersIn}
-use Rattle.routes.specs.Places.{Every}
+use Rattle.routes.specs.Places.{keyOf, Every}
 use Rattle.routes.specs.Sources.{recordAt, records}
 use Rattle.routes.proofs.Lines.{length-lines}
-use Rattle.selection.specs.Pick.{membersFrom, picked, pickOf, Pick, refusedBy, newBytes, newRecords, logVerdict}
+use Rattle.applying.specs.Correct.{Outcome, stopped, reached}
+use Rattle.selection.specs.Failing.{failureAs, settledOf}
+use Rattle.selection.specs.Pick.{membersFrom, picked, pickOf, Pick, refusedBy, newBytes, newRecords, logVerdict, lineIn}
+use Rattle.selection.specs.Reasons.{Reason, relyingOf, relyingSource, reasonsOf}
+use Rattle.selection.specs.declared.Failure.{Failure}
+use Rattle.selection.proofs.Because.{Small, few-reasons}
 use Rattle.selection.proofs.Demand.{picked-demand}
 use Rattle.answers.specs.Answers.{noLine, countLine, takeLine, takeLines, pickText, tabbed, pickAnswer, newfileAnswer, checkAnswer, fileText, verdictText, correctionCount, answered, filled}
+use Rattle.answers.specs.Why.{reasonLine, reasonLines, recordLine, frozenRecord, lineText, inText, routeText, moreText, whyText, whyAnswer}
 use Rattle.answers.specs.declared.Answer.{Answer}
+use Rattle.answers.proofs.WhyLaws.{more-few, line-few}
 
 length-tabbed : (n : ℕ) → n < 1000 → length (tabbed n) ≤ 4
 unfolding tabbed
@@ -139,6 +148,97 @@ check-fits f l = by (logVerdict f l)
     by : (v : Verdict) → length (verdictText v ok) ≤ 66
     by Accepted = omega (arith, any-counts (codes "ok") (length (records f)) (correctionCount (readLog l (length (records f)))), length-ok)
     by (Refused r) = no-length r
+
+-- Why a correction is taken is written in at most 43 bytes.
+length-reason-line : (n m : ℕ) (rec : List ℕ) → n < 1000 → m < 1000 → length (reasonLine n m rec) ≤ 43
+unfolding reasonLine codes
+length-reason-line n m rec h k = by (eqb m 0)
+  where
+    front : List ℕ
+    front = 116 ∷ 97 ∷ 107 ∷ 101 ∷ tabbed n
+
+    by : (b : Bool) → length (cond b (front ++ 9 ∷ 119 ∷ 97 ∷ 110 ∷ 116 ∷ 101 ∷ 100 ∷ 10 ∷ []) (front ++ (9 ∷ 102 ∷ 111 ∷ 114 ∷ []) ++ tabbed m ++ 9 ∷ [] ++ keyOf rec ++ 10 ∷ [])) ≤ 43
+    by true = omega (arith, length-append front (9 ∷ 119 ∷ 97 ∷ 110 ∷ 116 ∷ 101 ∷ 100 ∷ 10 ∷ []), length-tabbed n h)
+    by false =
+        omega (
+          arith,
+          length-append (front ++ (9 ∷ 102 ∷ 111 ∷ 114 ∷ []) ++ tabbed m ++ 9 ∷ [] ++ keyOf rec) (10 ∷ []),
+          length-append (front ++ (9 ∷ 102 ∷ 111 ∷ 114 ∷ []) ++ tabbed m ++ 9 ∷ []) (keyOf rec),
+          length-append (front ++ (9 ∷ 102 ∷ 111 ∷ 114 ∷ []) ++ tabbed m) (9 ∷ []),
+          length-append (front ++ (9 ∷ 102 ∷ 111 ∷ 114 ∷ [])) (tabbed m),
+          length-append front (9 ∷ 102 ∷ 111 ∷ 114 ∷ []),
+          length-part 25 0 rec,
+          length-tabbed n h,
+          length-tabbed m k,
+        )
+
+length-reason-lines : (f l : List ℕ) (rs : List Reason) → Every Small rs → length (reasonLines f l rs) ≤ length rs * 43
+unfolding reasonLines
+length-reason-lines f l [] e = omega arith
+length-reason-lines f l (r ∷ rs) e =
+    let own : List ℕ = reasonLine (r .correction) (relyingOf r) (recordAt f l (relyingSource r)) in
+    omega (
+      arith,
+      length-append own (reasonLines f l rs),
+      length-reason-line (r .correction) (relyingOf r) (recordAt f l (relyingSource r)) (omega (arith, e .0 .0)) (omega (arith, e .0 .1)),
+      length-reason-lines f l rs (e .1),
+    )
+
+-- What more is known of a refusal is written in at most 300 bytes.
+length-record-line : (rec : List ℕ) → length rec ≤ 132 → length (recordLine rec) ≤ 140
+unfolding codes
+length-record-line [] h = omega arith
+length-record-line (b ∷ bs) h = omega (arith, length-append (114 ∷ 101 ∷ 99 ∷ 111 ∷ 114 ∷ 100 ∷ 9 ∷ b ∷ bs) (10 ∷ []))
+
+length-line-text : (n : ℕ) → length (lineText n) ≤ 26
+unfolding lineText codes tabbed
+length-line-text n = omega (arith, length-append (108 ∷ 105 ∷ 110 ∷ 101 ∷ 9 ∷ decimal n) (10 ∷ []), decimal-width n .1)
+
+length-in-text : (first : List ℕ) (r : Refusal) → length (inText first r) ≤ 92
+unfolding inText codes tabbed
+length-in-text first r =
+    let front : List ℕ = 105 ∷ 110 ∷ 9 ∷ keyOf first in
+    omega (
+      arith,
+      length-append (front ++ 9 ∷ decimal (r .number) ++ 9 ∷ decimal (r .place) ++ 9 ∷ decimal (r .column)) (10 ∷ []),
+      length-append (front ++ 9 ∷ decimal (r .number) ++ 9 ∷ decimal (r .place)) (9 ∷ decimal (r .column)),
+      length-append (front ++ 9 ∷ decimal (r .number)) (9 ∷ decimal (r .place)),
+      length-append front (9 ∷ decimal (r .number)),
+      length-part 25 0 first,
+      decimal-width (r .number) .1,
+      decimal-width (r .place) .1,
+      decimal-width (r .column) .1,
+    )
+
+length-more-text : (f l : List ℕ) (r : Refusal) (x : Failure) → length (moreText f l r x) ≤ 300
+unfolding moreText routeText
+length-more-text f l r x = by (eqb (r .number) 10) (eqb (r .number) 11)
+  where
+    own : List ℕ
+    own = lineIn f l (x .fault .route) (x .fault .inner .place)
+
+    first : List ℕ
+    first = lineIn f l (x .fault .route) 1
+
+    by : (a b : Bool) → length (cond a (lineText (x .line)) (cond b (inText first (x .fault .inner) ++ recordLine own) (recordLine (frozenRecord f r)))) ≤ 300
+    by true b = omega (arith, length-line-text (x .line))
+    by false true =
+        omega (
+          arith,
+          length-append (inText first (x .fault .inner)) (recordLine own),
+          length-in-text first (x .fault .inner),
+          length-record-line own (line-few f l (x .fault .route) (x .fault .inner .place)),
+        )
+    by false false = omega (arith, length-record-line (frozenRecord f r) (more-few f r))
+
+-- So `why` answers in at most 8,600 bytes.
+pub why-fits : (frozen log want : List ℕ) → length (whyAnswer frozen log want) ≤ 8600
+unfolding whyAnswer whyText
+why-fits f l want = by (settledOf f l (numbersIn 200 want)) (reasonsOf f l (numbersIn 200 want)) (few-reasons f l (numbersIn 200 want))
+  where
+    by : (o : Outcome) (rs : List Reason) → (length rs ≤ 200) × Every Small rs → length (whyText f l o rs) ≤ 8600
+    by (stopped r w) rs h = omega (arith, length-append (noLine r) (moreText f l r (failureAs l (stopped r w))), no-length r, length-more-text f l r (failureAs l (stopped r w)))
+    by (reached xs) rs h = omega (arith, length-reason-lines f l rs (h .1), h .0)
 
 -- ---- so an answer is whole, or there is none
 

@@ -2,5 +2,6 @@
 mod WroteLaws
 mod LineLaws
 mod AnswerLaws
+mod WhyLaws
 pub mod Lengths
 mod Vectors

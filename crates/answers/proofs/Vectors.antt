@@ -10,6 +10,8 @@ use Rattle.digits.specs.Decimal.{digitsBy, decimal}
 use Rattle.columns.specs.Patterns.{codes}
 use Rattle.refusals.specs.Table.{cutShort, tooManyRecords, bufferTooShort, refusal}
 use Rattle.selection.specs.Pick.{refusedBy, picked}
+use Rattle.slices.specs.Part.{part}
+use Rattle.answers.specs.Why.{reasonLine, recordLine, lineText, inText}
 use Rattle.answers.specs.Answers.{noLine, countLine, takeLine, takeLines, pickText, tabbed}
 
 same : List ℕ → String → Bool
@@ -41,3 +43,14 @@ picks : (same (pickText (picked (1 ∷ 3 ∷ 5 ∷ []) (0 ∷ 133 ∷ 266 ∷ []
     ≡ true
 unfolding same equal order codes pickText noLine countLine takeLines takeLine tabbed decimal digitsBy
 picks = refl
+
+-- a correction that is wanted, one that is taken for another by the route of a record, and what is said of refusals
+whys : (same (reasonLine 5 0 []) "take\t5\twanted\n"
+    && same (reasonLine 1 3 (codes "SEURP LPRDLPFI09   APAINE 010")) "take\t1\tfor\t3\tSEURP LPRDLPFI09   APAINE\n"
+    && same (lineText 7) "line\t7\n"
+    && same (inText (codes "SEURP LPRDLPFI09   APAINE 010") (refusal 8 1 49)) "in\tSEURP LPRDLPFI09   APAINE\t8\t1\t49\n"
+    && same (recordLine (codes "S")) "record\tS\n"
+    && same (recordLine []) "")
+    ≡ true
+unfolding same equal order codes reasonLine lineText inText tabbed decimal digitsBy part
+whys = refl

@@ -47,7 +47,7 @@ pub wrote-digits : {a b c : List ℕ} {at end n : ℕ} → 10 ≤ n → Short n 
 wrote-digits {n = n} h s w e = rw (decimal-more n h s) (wrote-then w (wrote-byte e))
 
 -- fewer digits in front of the last
-pub room-in-front : (at n : ℕ) → 10 ≤ n → Short n → at + length (decimal n) ≤ 20000 → at + length (decimal (n / 10)) < 20000
+pub room-in-front : (at n : ℕ) → 10 ≤ n → Short n → at + length (decimal n) ≤ 40000 → at + length (decimal (n / 10)) < 40000
 room-in-front at n h s r = omega (arith, ap length (decimal-more n h s), length-append (decimal (n / 10)) ((n % 10 + 48) ∷ []))
 
 pub wrote-tabbed : {a b c : List ℕ} {at end : ℕ} (n : ℕ) → b ≡ set a (at + 0) 9 → Wrote b c (at + 1) (decimal n) end → Wrote a c at (tabbed n) end

@@ -1,3 +1,4 @@
 -- What the contracts of this crate cite.
 pub mod Written
 pub mod Answers
+pub mod Why

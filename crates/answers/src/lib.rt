@@ -1,11 +1,13 @@
-// The exact bytes that the programs print: what a pick comes to, the new file, and whether a log stands.
+// The exact bytes that the programs print: what a pick comes to, the new file, whether a log stands, and why.
 // Assumes nothing of the caller: any frozen file, any log, any list of wanted numbers, any buffer.
 mod pieces;
 mod texts;
+mod whys;
 
 ghost use mathlib.Core.Path.{_≡_};
 ghost use lib.ListN.{length, replicate};
 ghost use Rattle.answers.specs.Answers.{pickAnswer, newfileAnswer, checkAnswer, tooShort, wholeAnswer, Leaves};
+ghost use Rattle.answers.specs.Why.{whyAnswer};
 use corrections::LONGEST_LOG;
 use corrections::MOST_CORRECTIONS;
 use refusals::Refusal;
@@ -14,12 +16,16 @@ use routes::LINE_WIDTH;
 use texts::put_counts;
 use texts::put_no;
 use texts::put_picked;
+use whys::put_explained;
 
 // No answer of `pick_answer` is longer: 13 bytes of counts, and 9 for each of 200 corrections.
 pub const LONGEST_PICK: usize = 13 + 9 * MOST_CORRECTIONS;
 
 // No new file is longer.
 pub const LONGEST_FILE: usize = routes::LONGEST_FILE;
+
+// No answer of `why_answer` is longer: 43 bytes for each of 200 corrections.
+pub const LONGEST_WHY: usize = 43 * MOST_CORRECTIONS;
 
 // No line of a refusal is longer, whatever its numbers, and no two counts are.
 pub const LONGEST_CHECK: usize = 66;
@@ -112,4 +118,19 @@ pub fn check_answer<'a>(frozen: &'a [u8], log: &'a [u8], out: &mut [u8]) -> Answ
         }
         Verdict::Refused(r) => written(put_no(r, &mut *out)),
     }
+}
+
+// What `why` prints: why each correction is taken, or the refusal, and what more is known of it. Zeros past it.
+pub fn why_answer<'a>(frozen: &'a [u8], log: &'a [u8], want: &[u8], out: &mut [u8]) -> Answer
+    ensures { λ r. ⌜ Leaves 8600 (now (out .entry)) (now (out .exit)) (whyAnswer (now (frozen .entry)) (now (log .entry)) (now (want .entry))) r ⌝ }
+{
+    if out.len() < LONGEST_WHY {
+        return too_short(&mut *out);
+    }
+    let wanted = wanted::numbers(want);
+    let count = wanted.count;
+    let numbers = wanted.at;
+    let explained = selection::reasons(frozen, log, &numbers[..count]);
+    slices::clear(&mut *out);
+    written(put_explained(frozen, log, explained, &mut *out))
 }

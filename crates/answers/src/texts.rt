@@ -11,7 +11,7 @@ use selection::Picked;
 
 // Writes a refusal's line, and answers the offset behind it.
 pub(crate) fn put_no(refusal: Refusal, out: &mut [u8]) -> usize
-    ensures { λ r. ⌜ Wrote (now (out .entry)) (now (out .exit)) 0 (noLine refusal) r ⌝ }
+    ensures { λ r. ⌜ Wrote (now (out .entry)) (now (out .exit)) 0 (noLine refusal) r × (r ≤ 66) ⌝ }
 {
     let word = put_word(b"no", out, 0);
     let number = put_tabbed(refusal.number as usize, out, word);

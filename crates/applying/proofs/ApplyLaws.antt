@@ -11,10 +11,11 @@ use borrow.Author.Tests.{ne-eqb}
 use Rattle.slices.proofs.PartLaws.{one-less}
 use Rattle.corrections.specs.Reading.{entry}
 use Rattle.corrections.specs.declared.Index.{Index}
+use lib.ListN.{getD}
 use Rattle.routes.specs.Sources.{logSource, recordAt, inUse}
 use Rattle.routes.specs.declared.Sources.{Sources}
 use Rattle.applying.specs.State.{withSource, withoutRecord, Gives, made, failed}
-use Rattle.applying.specs.Apply.{entryAt, entriesFrom, lineApplied, linesApplied}
+use Rattle.applying.specs.Apply.{entryAt, entriesFrom, ifApplied, lineApplied, linesApplied, failsAt}
 use Rattle.applying.specs.declared.state.Change.{Change}
 
 -- ---- one line
@@ -68,3 +69,23 @@ module _ (f l : List ℕ) (index : Index) (k to : ℕ) where
       lines-go-on d =
           let s = gave-some c _ g d in
           (s .1, w ∙ lines-next (inUse standing) h ∙ ap (λ (o : Option (List ℕ)). bind o (linesApplied f l (entriesFrom index (k + 1) (to - (k + 1))))) (s .0))
+
+  -- ---- which of them can't be applied
+
+  pub none-fails : (xs : List ℕ) → to ≤ k → failsAt f l (entriesFrom index k (to - k)) xs ≡ 0
+  unfolding failsAt entriesFrom
+  none-fails xs h = let e : to - k ≡ 0 = omega arith in rw e
+
+  module _ (h : k < to) (xs : List ℕ) (c : Change) (g : Gives c (lineApplied f l (entryAt index k) xs)) where
+    abbrev later : List ℕ → ℕ
+    later = failsAt f l (entriesFrom index (k + 1) (to - (k + 1)))
+
+    fails-next : failsAt f l (entriesFrom index k (to - k)) xs ≡ ifApplied (lineApplied f l (entryAt index k) xs) (getD (index .at) k 0) later
+    unfolding failsAt entriesFrom
+    fails-next = rw (one-less to k h)
+
+    pub fails-here : c .done ≡ false → failsAt f l (entriesFrom index k (to - k)) xs ≡ getD (index .at) k 0
+    fails-here d = fails-next ∙ ap (λ (o : Option (List ℕ)). ifApplied o (getD (index .at) k 0) later) (gave-none c _ g d)
+
+    pub fails-later : c .done ≡ true → failsAt f l (entriesFrom index k (to - k)) xs ≡ later (inUse (c .state))
+    fails-later d = fails-next ∙ ap (λ (o : Option (List ℕ)). ifApplied o (getD (index .at) k 0) later) (gave-some c _ g d .0)

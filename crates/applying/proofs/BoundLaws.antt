@@ -7,10 +7,9 @@ use Prim.Native.Nat.{ℕ, zero, suc, _+_, _-_, _≤_, _<_}
 use native.Mathlib.Omega.{arith}
 use lib.Dec.{leb}
 use lib.ListN.{length, getD, take, drop, replicate, drop-of-length-le}
-use lib.Seq.{length-take-le, drop-cons}
+use lib.Seq.{take-take, drop-cons}
 use borrow.Author.Tests.{le-leb, lt-leb, leb-true}
 use Rattle.slices.proofs.Cases.{and-left, and-right, both}
-use Rattle.slices.proofs.WriteLaws.{cleared}
 use Rattle.refusals.specs.Table.{tooManyRecords, logTooLong}
 use Rattle.refusals.specs.declared.Refusal.{Refusal}
 use Rattle.refusals.specs.declared.Verdict.{Verdict}
@@ -18,25 +17,23 @@ use Rattle.refusals.specs.declared.Verdict.the-variants.{Accepted, Refused}
 use Rattle.refusals.proofs.VerdictLaws.{never}
 use Rattle.corrections.specs.declared.Index.{Index}
 use Rattle.routes.specs.InTurn.{inTurn}
-use Rattle.routes.specs.Sources.{inUse, sourcesFor}
+use Rattle.routes.specs.Sources.{inUse, sourcesIn, sourcesFor}
 use Rattle.routes.specs.declared.Sources.{Sources}
 use Rattle.history.specs.Sets.{Numbers}
 use Rattle.applying.specs.Apply.{Within, entriesFrom}
-use Rattle.applying.specs.Correct.{Outcome, stopped, Comes}
+use Rattle.applying.specs.Correct.{noMore, Outcome, faultAs, Comes}
 use Rattle.applying.specs.Run.{byCorrection, ran}
-use Rattle.applying.specs.Bounds.{allWithin, boundStage, ranOver, ranAs}
+use Rattle.applying.specs.Bounds.{allWithin, boundStage, ranOver, refusedRun, ranAs}
+use Rattle.applying.specs.declared.Fault.{Fault}
 use Rattle.applying.specs.declared.Ran.{Ran}
 use Rattle.applying.specs.declared.correct.Corrected.{Corrected}
 use Rattle.applying.proofs.RunLaws.{came-refused, came-stands}
 
--- ---- zeros past the sources that count
+-- ---- all sources that count
 
-pub all-cleared : (s next : Sources) → s .count ≤ 480 → length (s .at) ≡ 480 → next .count ≡ s .count → next .at ≡ cleared (s .at) (s .count) → next ≡ sourcesFor (inUse s)
-unfolding sourcesFor inUse cleared
-all-cleared s next h n c a =
-    let m : length (take (s .count) (s .at)) ≡ s .count = length-take-le (s .count) (s .at) (omega arith) in
-    ap₂ (λ (x : ℕ) (xs : List ℕ). record { count = x; at = xs }) (c ∙ sym m)
-    (a ∙ ap (λ (k : ℕ). take (s .count) (s .at) ++ replicate k 0) (let e : length (s .at) - s .count ≡ 480 - length (take (s .count) (s .at)) = omega arith in e))
+pub all-in-use : (s : Sources) → sourcesIn s 0 (s .count) ≡ inUse s
+unfolding inUse
+all-in-use s = take-take (s .count) (s .count) (s .at) (omega arith)
 
 -- ---- the bounds
 
@@ -111,22 +108,27 @@ module _ (f l : List ℕ) (T : Numbers) (index : Index) (state : Sources) {v : V
   whole : Outcome
   whole = ran f l T 1 (byCorrection 1 (index .corrections) (entriesFrom index 0 (index .count))) (inUse state)
 
-  pub run-unbounded : {r : Refusal} {x : Ran} → v ≡ Refused r → x ≡ ranAs (stopped r) → x ≡ ranAs (ranOver f l T index state)
-  unfolding ranOver
-  run-unbounded q g = g ∙ rw (sym e ∙ q)
+  pub run-unbounded : {r : Refusal} {x : Ran} {z : Fault} → v ≡ Refused r → x ≡ refusedRun r z → z ≡ faultAs noMore → x ≡ ranAs (ranOver f l T index state)
+  unfolding ranOver ranAs
+  run-unbounded {r} q g n = g ∙ ap (refusedRun r) n ∙ rw (sym e ∙ q)
 
   module _ (a : v ≡ Accepted) where
     module _ (c : Corrected) (g : Comes c (ran f l T 1 (byCorrection 1 (index .corrections) (entriesFrom index 0 (index .count))) (inUse state))) where
-      pub run-refused : {r : Refusal} {x : Ran} → c .verdict ≡ Refused r → x ≡ ranAs (stopped r) → x ≡ ranAs (ranOver f l T index state)
-      unfolding ranOver
-      run-refused q z = z ∙ rw (sym e ∙ a) (ap ranAs (sym (came-refused c _ g q)))
+      pub run-refused : {r : Refusal} {x : Ran} → c .verdict ≡ Refused r → x ≡ refusedRun r (c .fault) → x ≡ ranAs (ranOver f l T index state)
+      unfolding ranOver ranAs
+      run-refused {r} q x =
+          let (w, o, z) = came-refused c _ g q in
+          x ∙ ap (refusedRun r) z ∙ rw (sym e ∙ a) (ap ranAs (sym o))
 
       pub run-count : c .verdict ≡ Accepted → c .state .count ≤ 480
       run-count q = came-stands c _ g q .1
 
-      pub run-stands : {s : Sources} → c .verdict ≡ Accepted → s ≡ sourcesFor (inUse (c .state)) → record { verdict = Accepted; records = s } ≡ ranAs (ranOver f l T index state)
+      pub run-stands : {s : Sources} {z : Fault} → c .verdict ≡ Accepted → s ≡ sourcesFor (sourcesIn (c .state) 0 (c .state .count)) → z ≡ faultAs noMore
+          → record { verdict = Accepted; records = s; fault = z } ≡ ranAs (ranOver f l T index state)
       unfolding ranOver ranAs
-      run-stands q z = ap (λ (x : Sources). record { verdict = Accepted; records = x }) z ∙ rw (sym e ∙ a) (ap ranAs (sym (came-stands c _ g q .0)))
+      run-stands q x z =
+          ap₂ (λ (x : Sources) (y : Fault). record { verdict = Accepted; records = x; fault = y }) (x ∙ ap sourcesFor (all-in-use (c .state))) z
+          ∙ rw (sym e ∙ a) (ap ranAs (sym (came-stands c _ g q .0)))
 
 -- over what a log and a file have, nothing is refused for its bounds
 pub ran-bound : (f l : List ℕ) (T : Numbers) (index : Index) (state : Sources) → Bound index state

@@ -21,7 +21,7 @@ use Rattle.history.specs.Format as H
 use Rattle.history.specs.Apply.{Op, Correction, apply, applyAll, touchedAccepted, correct, run}
 use Rattle.history.specs.Sets.{Numbers, chooseFrom}
 use Rattle.history.proofs.Cases.{every-some}
-use Rattle.applying.specs.Apply.{sourceOf, recordOfLine, lineApplied, linesApplied, touchedJudged}
+use Rattle.applying.specs.Apply.{sourceOf, recordOfLine, lineApplied, linesApplied, failsAt, touchedJudged, refusedRoute}
 use Rattle.applying.specs.Correct.{Outcome, stopped, reached, afterLines, afterJudging, corrected}
 use Rattle.applying.specs.Run.{onward, ran}
 use Rattle.applying.specs.Procedures.{procedures, operation, operations}
@@ -32,7 +32,7 @@ use Rattle.applying.proofs.TouchedLaws.{touched-judged}
 module _ (f l : List ℕ) where
   -- the records that an outcome leaves, if it leaves any
   unfoldable pub filed : Outcome → Option (List (List ℕ))
-  filed (stopped r) = none
+  filed (stopped r w) = none
   filed (reached xs) = some (recordsOf f l xs)
 
   -- the records of sources, and lines in the words of the theory
@@ -91,16 +91,16 @@ module _ (f l : List ℕ) where
       checked : List (List ℕ) → Option (List (List ℕ))
       checked g = cond (touchedAccepted procedures (ops es) g) (some g) none
 
-      judged : (ys : List ℕ) → H.Rising procedures (R ys) → filed (afterJudging n ys (touchedJudged f l es 0 ys)) ≡ checked (R ys)
+      judged : (ys : List ℕ) → H.Rising procedures (R ys) → filed (afterJudging n ys (refusedRoute f l es 0 ys) (touchedJudged f l es 0 ys)) ≡ checked (R ys)
       judged ys a = at (touchedJudged f l es 0 ys) refl
         where
-          at : (v : Verdict) → touchedJudged f l es 0 ys ≡ v → filed (afterJudging n ys v) ≡ checked (R ys)
+          at : (v : Verdict) → touchedJudged f l es 0 ys ≡ v → filed (afterJudging n ys (refusedRoute f l es 0 ys) v) ≡ checked (R ys)
           at Accepted e = rw (touched-judged f l es ys a .0 e)
           at (Refused r) e =
               split (touchedAccepted procedures (ops es) (R ys)) (λ t. absurd (never (sym e ∙ touched-judged f l es ys a .1 t))) (λ t. rw t)
 
       by : (next : Option (List ℕ)) → Option·map R next ≡ applyAll procedures (ops es) (R xs)
-          → filed (afterLines f l n es next) ≡ bind (applyAll procedures (ops es) (R xs)) checked
+          → filed (afterLines f l n es (failsAt f l es xs) next) ≡ bind (applyAll procedures (ops es) (R xs)) checked
       by none q = ap (λ (g : Option (List (List ℕ))). bind g checked) q
       by (some ys) q =
           judged ys
@@ -131,7 +131,7 @@ module _ (f l : List ℕ) where
       by : (next : Outcome) → filed next ≡ correct procedures (ops es) (R xs)
           → ((ys : List ℕ) → Placed (R ys) left → filed (ran f l T (suc (suc k)) ess ys) ≡ rest (R ys))
           → filed (onward next (ran f l T (suc (suc k)) ess)) ≡ bind (correct procedures (ops es) (R xs)) rest
-      by (stopped r) q ih = ap (λ (g : Option (List (List ℕ))). bind g rest) q
+      by (stopped r z) q ih = ap (λ (g : Option (List (List ℕ))). bind g rest) q
       by (reached ys) q ih =
           ih ys (every-some (λ g. Placed g left) (correct procedures (ops es) (R xs)) (R ys) (placed-correct (ops es) (R xs) left (w .0) p) (sym q))
           ∙ ap (λ (g : Option (List (List ℕ))). bind g rest) q

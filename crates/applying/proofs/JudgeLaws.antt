@@ -16,11 +16,11 @@ use Rattle.refusals.specs.declared.Verdict.the-variants.{Accepted, Refused}
 use Rattle.corrections.specs.Reading.{Entry}
 use Rattle.corrections.specs.declared.Index.{Index}
 use Rattle.routes.specs.InTurn.{inTurn}
-use Rattle.routes.specs.Sources.{logSource, recordAt, inUse, recordsIn}
+use Rattle.routes.specs.Sources.{logSource, recordAt, inUse, sourcesIn, recordsIn}
 use Rattle.routes.specs.Walk.{walked}
 use Rattle.routes.specs.declared.Sources.{Sources}
 use Rattle.routes.proofs.InTurnLaws.{alone}
-use Rattle.applying.specs.Apply.{entriesFrom, sameRoute, touched, together, touchedJudged}
+use Rattle.applying.specs.Apply.{ifRefused, entriesFrom, sameRoute, touched, together, touchedJudged, refusedRoute}
 use Rattle.applying.proofs.StateLaws.{in-use-length, in-use-next, in-use-past}
 
 module _ (f l : List ℕ) where
@@ -69,8 +69,12 @@ module _ (f l : List ℕ) where
 
   -- ---- the routes that are left
 
-  skipped : (es : List Entry) (n : ℕ) (xs : List ℕ) → touchedJudged f l es n xs ≡ touchedJudged f l es 0 (drop n xs)
-  unfolding touchedJudged
+  -- the verdict on them, and the sources of the first that is refused
+  abbrev pub judgedFrom : List Entry → (judged : ℕ) → List ℕ → Verdict × List ℕ
+  judgedFrom es n xs = (touchedJudged f l es n xs, refusedRoute f l es n xs)
+
+  skipped : (es : List Entry) (n : ℕ) (xs : List ℕ) → judgedFrom es n xs ≡ judgedFrom es 0 (drop n xs)
+  unfolding touchedJudged refusedRoute
   skipped es zero xs = refl
   skipped es (suc n) [] = refl
   skipped es (suc n) (x ∷ xs) = skipped es n xs
@@ -97,39 +101,42 @@ module _ (f l : List ℕ) where
     unfolding more rest
     ends = j ∙ rw add-one
 
-    its-records : recordsIn f l st i end ≡ map (recordAt f l) (getD (st .at) i 0 ∷ take more rest)
-    unfolding recordsIn rest
-    its-records =
+    its-sources : sourcesIn st i end ≡ getD (st .at) i 0 ∷ take more rest
+    unfolding rest
+    its-sources =
         let e : end ≡ i + suc more = omega (arith, ends) in
-        ap (λ (k : ℕ). map (recordAt f l) (drop i (take k (inUse st)))) e
-        ∙ ap (map (recordAt f l)) (run-of (inUse st) i (suc more) ∙ ap (take (suc more)) (in-use-next st h long i n))
+        ap (λ (k : ℕ). drop i (take k (inUse st))) e ∙ run-of (inUse st) i (suc more) ∙ ap (take (suc more)) (in-use-next st h long i n)
 
     behind : drop more rest ≡ drop end (inUse st)
     unfolding rest
     behind = drop-drop more (suc i) (inUse st) ∙ ap (λ (k : ℕ). drop k (inUse st)) (sym ends)
 
     -- the route that stands at i, and then the routes behind it
-    turn : touchedJudged f l es 0 (drop i (inUse st))
-        ≡ inTurn (cond (touched f l es (getD (st .at) i 0)) (walked (recordsIn f l st i end)) Accepted ∷ touchedJudged f l es 0 (drop end (inUse st)) ∷ [])
-    unfolding touchedJudged rest more
+    turn : judgedFrom es 0 (drop i (inUse st))
+        ≡ (let first = cond (touched f l es (getD (st .at) i 0)) (walked (recordsIn f l st i end)) Accepted in (
+          inTurn (first ∷ touchedJudged f l es 0 (drop end (inUse st)) ∷ []),
+          ifRefused first (sourcesIn st i end) (refusedRoute f l es 0 (drop end (inUse st))),
+        ))
+    unfolding touchedJudged refusedRoute recordsIn rest more
     turn =
-        ap (touchedJudged f l es 0) (in-use-next st h long i n)
-        ∙ ap₂ (λ (rs : List (List ℕ)) (v : Verdict). inTurn (cond (touched f l es (getD (st .at) i 0)) (walked rs) Accepted ∷ v ∷ [])) (sym its-records)
-        (skipped es more rest ∙ ap (touchedJudged f l es 0) behind)
+        ap (judgedFrom es 0) (in-use-next st h long i n)
+        ∙ ap₂ (λ (ss : List ℕ) (p : Verdict × List ℕ).
+        let first = cond (touched f l es (getD (st .at) i 0)) (walked (map (recordAt f l) ss)) Accepted in (inTurn (first ∷ p .0 ∷ []), ifRefused first ss (p .1))) (sym its-sources)
+        (skipped es more rest ∙ ap (judgedFrom es 0) behind)
 
     pub route-refused : {b : Bool} {v : Verdict} {r : Refusal} → b ≡ touched f l es (getD (st .at) i 0) → b ≡ true → v ≡ walked (recordsIn f l st i end) → v ≡ Refused r
-        → touchedJudged f l es 0 (drop i (inUse st)) ≡ Refused r
+        → judgedFrom es 0 (drop i (inUse st)) ≡ (Refused r, sourcesIn st i end)
     unfolding inTurn
     route-refused t q w e = turn ∙ rw (← t, q, ← w, e)
 
     pub route-stands : {b : Bool} {v : Verdict} → b ≡ touched f l es (getD (st .at) i 0) → b ≡ true → v ≡ walked (recordsIn f l st i end) → v ≡ Accepted
-        → touchedJudged f l es 0 (drop i (inUse st)) ≡ touchedJudged f l es 0 (drop end (inUse st))
+        → judgedFrom es 0 (drop i (inUse st)) ≡ judgedFrom es 0 (drop end (inUse st))
     unfolding inTurn
-    route-stands t q w e = turn ∙ rw (← t, q, ← w, e) (alone (touchedJudged f l es 0 (drop end (inUse st))))
+    route-stands t q w e = turn ∙ rw (← t, q, ← w, e) (ap (λ (v : Verdict). (v, refusedRoute f l es 0 (drop end (inUse st)))) (alone (touchedJudged f l es 0 (drop end (inUse st)))))
 
-    pub route-untouched : {b : Bool} → b ≡ touched f l es (getD (st .at) i 0) → b ≡ false → touchedJudged f l es 0 (drop i (inUse st)) ≡ touchedJudged f l es 0 (drop end (inUse st))
+    pub route-untouched : {b : Bool} → b ≡ touched f l es (getD (st .at) i 0) → b ≡ false → judgedFrom es 0 (drop i (inUse st)) ≡ judgedFrom es 0 (drop end (inUse st))
     unfolding inTurn
-    route-untouched t q = turn ∙ rw (← t, q) (alone (touchedJudged f l es 0 (drop end (inUse st))))
+    route-untouched t q = turn ∙ rw (← t, q) (ap (λ (v : Verdict). (v, refusedRoute f l es 0 (drop end (inUse st)))) (alone (touchedJudged f l es 0 (drop end (inUse st)))))
 
     pub end-within : (i < end) × (end ≤ st .count)
     unfolding more rest
@@ -139,6 +146,6 @@ module _ (f l : List ℕ) where
         let c = in-use-length st h long in
         (omega (arith, ends), omega (arith, ends, w, k, c))
 
-  pub routes-end : (es : List Entry) (st : Sources) → st .count ≤ 480 → length (st .at) ≡ 480 → (i : ℕ) → st .count ≤ i → touchedJudged f l es 0 (drop i (inUse st)) ≡ Accepted
-  unfolding touchedJudged
+  pub routes-end : (es : List Entry) (st : Sources) → st .count ≤ 480 → length (st .at) ≡ 480 → (i : ℕ) → st .count ≤ i → judgedFrom es 0 (drop i (inUse st)) ≡ (Accepted, [])
+  unfolding touchedJudged refusedRoute
   routes-end es st h long i n = rw (in-use-past st h long i n)

@@ -2,6 +2,7 @@
 mod ShiftLaws
 pub mod StateLaws
 pub mod ApplyLaws
+mod RangeLaws
 mod JudgeLaws
 mod CorrectLaws
 pub mod RunLaws
@@ -11,5 +12,6 @@ pub mod Kept
 pub mod PlacedLaws
 pub mod TouchedLaws
 pub mod Bridge
+pub mod WrongLaws
 pub mod OriginLaws
 pub mod LastPut

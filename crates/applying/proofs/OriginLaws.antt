@@ -30,8 +30,8 @@ use Rattle.history.specs.Sets.{Numbers}
 use Rattle.history.proofs.Cases.{every-some, cond-some}
 use Rattle.history.proofs.Local.{above-trans, rising-apply}
 use Rattle.applying.specs.State.{notLess, putAt, leftOut, notBefore, countBefore, hasPlace, isRecord, withSource, withoutRecord}
-use Rattle.applying.specs.Apply.{sourceOf, recordOfLine, lineApplied, linesApplied, touchedJudged}
-use Rattle.applying.specs.Correct.{Outcome, stopped, reached, corrected, afterLines, afterJudging}
+use Rattle.applying.specs.Apply.{sourceOf, recordOfLine, lineApplied, linesApplied, failsAt, touchedJudged, refusedRoute}
+use Rattle.applying.specs.Correct.{Wrong, Outcome, stopped, reached, corrected, afterLines, afterJudging}
 use Rattle.applying.specs.Run.{onward, ran}
 use Rattle.applying.specs.Procedures.{procedures}
 use Rattle.applying.specs.Origin.{Elsewhere, Origin, fromLog, fromFrozen}
@@ -248,18 +248,18 @@ module _ (f l : List ℕ) where
       by (some zs) p h ih =
           subst (λ (done : List Entry). Traced done ys) (append-assoc lines (e ∷ []) es) (ih zs h (line-traced lines e xs zs (w .0) p t))
 
-  no-reached : {r : Refusal} {ys : List ℕ} → stopped r ≡ reached ys → ⊥
+  no-reached : {r : Refusal} {w : Wrong} {ys : List ℕ} → stopped r w ≡ reached ys → ⊥
   no-reached e = let z : _≡_ {A = ℕ} 0 1 = cc in omega arith
 
   corrected-lines : (n : ℕ) (es : List Entry) (xs ys : List ℕ) → corrected f l n es xs ≡ reached ys → linesApplied f l es xs ≡ some ys
   unfolding corrected
   corrected-lines n es xs ys q = by (linesApplied f l es xs) q
     where
-      by : (next : Option (List ℕ)) → afterLines f l n es next ≡ reached ys → next ≡ some ys
+      by : (next : Option (List ℕ)) → afterLines f l n es (failsAt f l es xs) next ≡ reached ys → next ≡ some ys
       by none h = absurd (no-reached h)
       by (some zs) h = judged (touchedJudged f l es 0 zs) h
         where
-          judged : (v : Verdict) → afterJudging n zs v ≡ reached ys → some zs ≡ some ys
+          judged : (v : Verdict) → afterJudging n zs (refusedRoute f l es 0 zs) v ≡ reached ys → some zs ≡ some ys
           judged Accepted e = let same : zs ≡ ys = cc in ap some same
           judged (Refused r) e = absurd (no-reached e)
 
@@ -277,7 +277,7 @@ module _ (f l : List ℕ) where
       by : (next : Outcome) → corrected f l n es xs ≡ next → onward next (ran f l T (n + 1) ess) ≡ reached ys
           → ((zs : List ℕ) → ran f l T (n + 1) ess zs ≡ reached ys → Traced (lines ++ es) zs → Traced ((lines ++ es) ++ rest) ys)
           → Traced (lines ++ (es ++ rest)) ys
-      by (stopped r) p h ih = absurd (no-reached h)
+      by (stopped r z) p h ih = absurd (no-reached h)
       by (reached zs) p h ih =
           subst (λ (done : List Entry). Traced done ys) (append-assoc lines es rest)
           (ih zs h (lines-traced lines es xs zs (w .0) (corrected-lines n es xs zs p) t))

@@ -18,7 +18,7 @@ use Rattle.corrections.specs.declared.Index.{Index}
 use Rattle.routes.specs.Sources.{inUse}
 use Rattle.routes.specs.declared.Sources.{Sources}
 use Rattle.applying.specs.Apply.{entryAt, entriesFrom}
-use Rattle.applying.specs.Correct.{Outcome, stopped, reached, corrected, Comes, refused, stands}
+use Rattle.applying.specs.Correct.{Wrong, Outcome, stopped, reached, corrected, faultAs, Comes, refused, stands}
 use Rattle.history.specs.Sets.{Numbers}
 use Rattle.applying.specs.Run.{leadingLines, byCorrection, onward, ran}
 use Rattle.applying.specs.declared.correct.Corrected.{Corrected}
@@ -75,12 +75,12 @@ module _ (index : Index) (n k to : ℕ) where
 
 -- ---- one turn
 
-pub came-refused : (c : Corrected) (o : Outcome) → Comes c o → {r : Refusal} → c .verdict ≡ Refused r → (o ≡ stopped r)
-came-refused c _ (refused e) q = ap stopped (same-refusal (sym e ∙ q))
+pub came-refused : (c : Corrected) (o : Outcome) → Comes c o → {r : Refusal} → c .verdict ≡ Refused r → (w : Wrong) × (o ≡ stopped r w) × (c .fault ≡ faultAs w)
+came-refused c _ (refused {w = w} e z) q = (w, ap (λ (r : Refusal). stopped r w) (same-refusal (sym e ∙ q)), z)
 came-refused c _ (stands e n x) q = absurd (never (sym q ∙ e))
 
 pub came-stands : (c : Corrected) (o : Outcome) → Comes c o → c .verdict ≡ Accepted → (o ≡ reached (inUse (c .state))) × (c .state .count ≤ 480)
-came-stands c _ (refused e) q = absurd (never (sym e ∙ q))
+came-stands c _ (refused e z) q = absurd (never (sym e ∙ q))
 came-stands c _ (stands e n x) q = (ap reached (sym x), n)
 
 -- ---- one correction, if it is marked
@@ -133,9 +133,11 @@ module _ (f l : List ℕ) (T : Numbers) (index : Index) (n total k : ℕ) (whole
     unfolding ran one
     turn = w ∙ rw (left-next index n total k h b t, m)
 
-    pub run-stops : {r : Refusal} → next .verdict ≡ Refused r → (c : Corrected) → c .verdict ≡ Refused r → Comes c whole
+    pub run-stops : {r : Refusal} → next .verdict ≡ Refused r → Comes next whole
     unfolding one
-    run-stops e c v = subst (Comes c) (sym (turn ∙ ap (λ (o : Outcome). onward o (ran f l T (n + 1 + 1) (left index (n + 1) total to))) (came-refused next _ g e))) (refused v)
+    run-stops e =
+        let (w, q, z) = came-refused next _ g e in
+        subst (Comes next) (sym (turn ∙ ap (λ (o : Outcome). onward o (ran f l T (n + 1 + 1) (left index (n + 1) total to))) q)) (refused e z)
 
     pub run-goes-on : next .verdict ≡ Accepted → (next .state .count ≤ 480) × (whole ≡ ran f l T (n + 1 + 1) (left index (n + 1) total to) (inUse (next .state)))
     unfolding one

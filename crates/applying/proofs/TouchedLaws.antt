@@ -3,7 +3,7 @@
 -- Assumes nothing.
 use mathlib.Core.Path.{_≡_, refl, sym, ap, subst, _∙_}
 use mathlib.Core.Logic.{_↔_, inl, inr, ⊎-elim}
-use mathlib.Core.Bool.{true, false, cond, _&&_, false≢true}
+use mathlib.Core.Bool.{Bool, true, false, cond, _&&_, false≢true}
 use mathlib.Core.List.{List, [], _∷_, map}
 use Prim.Native.Nat.{ℕ, zero, suc}
 use Prim.Native.Char.{code}
@@ -12,8 +12,10 @@ use lib.ListN.{take, drop}
 use Rattle.slices.specs.Order.{equal}
 use Rattle.slices.proofs.Cases.{split, both, and-left, and-right, or-iff}
 use Rattle.slices.proofs.OrderLaws.{equal-iff}
+use Rattle.refusals.specs.declared.Refusal.{Refusal}
 use Rattle.refusals.specs.declared.Verdict.{Verdict}
-use Rattle.refusals.specs.declared.Verdict.the-variants.{Accepted}
+use Rattle.refusals.specs.declared.Verdict.the-variants.{Accepted, Refused}
+use Rattle.refusals.proofs.VerdictLaws.{never, same-refusal}
 use Rattle.corrections.specs.Reading.{Entry}
 use Rattle.routes.specs.InTurn.{inTurn}
 use Rattle.routes.specs.Places.{keyOf, placeOf, ofRoute, Before, Every, Rising}
@@ -25,7 +27,7 @@ use Rattle.routes.proofs.Routes.{no-record}
 use Rattle.history.specs.Format as H
 use Rattle.history.specs.Format.{own}
 use Rattle.history.specs.Apply.{Correction, routeOfOp, Touches, touchedAccepted}
-use Rattle.applying.specs.Apply.{recordOfLine, touched, together, touchedJudged}
+use Rattle.applying.specs.Apply.{ifRefused, recordOfLine, touched, together, touchedJudged, refusedRoute}
 use Rattle.applying.specs.Procedures.{accepts, procedures, operation}
 use Rattle.applying.proofs.Procedures.{own-route, rising, accepts-iff}
 use Rattle.applying.proofs.PlacedLaws.{recordsOf}
@@ -222,3 +224,41 @@ module _ (f l : List ℕ) where
       let j = judged-iff es 0 xs (rising (recordsOf f l xs) a) in
       let t = touched-iff (map (operation f l) es) (recordsOf f l xs) in
       (λ e. t .1 (j .0 e), λ e. j .1 (t .0 e))
+
+  -- The first touched route that is refused is all of the records of its key, and is refused by the same alone.
+  refused-from : (es : List Entry) (n : ℕ) (xs : List ℕ) (r : Refusal) → Rising (map placeOf (recordsOf f l xs)) → touchedJudged f l es n xs ≡ Refused r
+      → (k : List ℕ) × Touches procedures (map (operation f l) es) k × (recordsOf f l (refusedRoute f l es n xs) ≡ ofRoute k (recordsOf f l (drop n xs)))
+      × (walked (recordsOf f l (refusedRoute f l es n xs)) ≡ Refused r)
+  unfolding touchedJudged refusedRoute many key inTurn
+  refused-from es zero [] r u e = absurd (never (sym e))
+  refused-from es (suc n) [] r u e = absurd (never (sym e))
+  refused-from es (suc n) (x ∷ xs) r u e = refused-from es n xs r (u .1) e
+  refused-from es zero (x ∷ xs) r u e =
+      by (touched f l es x) refl (walked (recordsOf f l (x ∷ take (together f l x xs) xs))) refl e (λ q. refused-from es (together f l x xs) xs r (u .1) (sym (alone (touchedJudged f l es (together f l x xs) xs)) ∙ q))
+    where
+      n : ℕ
+      n = together f l x xs
+
+      Told : List ℕ → List (List ℕ) → Type 0
+      Told route rs = (k : List ℕ) × Touches procedures (map (operation f l) es) k × (recordsOf f l route ≡ ofRoute k rs) × (walked (recordsOf f l route) ≡ Refused r)
+
+      later : Told (refusedRoute f l es n xs) (recordsOf f l (drop n xs)) → Told (refusedRoute f l es n xs) (recordsOf f l (x ∷ xs))
+      later (k, t, q, w) = (
+        k,
+        t,
+        q ∙ others es x xs u k (λ same. never (sym w ∙ ap walked (q ∙ ap (λ (i : List ℕ). ofRoute i (recordsOf f l (drop n xs))) same ∙ rest-none x xs (u .0) (u .1)) ∙ no-record)),
+        w,
+      )
+
+      by : (a : Bool) → touched f l es x ≡ a → (v : Verdict) → walked (recordsOf f l (x ∷ take n xs)) ≡ v
+          → inTurn (cond a v Accepted ∷ touchedJudged f l es n xs ∷ []) ≡ Refused r
+          → (inTurn (touchedJudged f l es n xs ∷ []) ≡ Refused r → Told (refusedRoute f l es n xs) (recordsOf f l (drop n xs)))
+          → Told (ifRefused (cond (touched f l es x) (walked (recordsOf f l (x ∷ take n xs))) Accepted) (x ∷ take n xs) (refusedRoute f l es n xs)) (recordsOf f l (x ∷ xs))
+      by true a (Refused s) v h rest = rw (a, v) (key x, names-iff es x .0 a, sym (whole es x xs u), v ∙ ap Refused (same-refusal h))
+      by true a Accepted v h rest = rw (a, v) (later (rest h))
+      by false a v q h rest = rw a (later (rest h))
+
+  pub refused-alone : (es : List Entry) (xs : List ℕ) (r : Refusal) → H.Rising procedures (recordsOf f l xs) → touchedJudged f l es 0 xs ≡ Refused r
+      → (k : List ℕ) × Touches procedures (map (operation f l) es) k × (recordsOf f l (refusedRoute f l es 0 xs) ≡ ofRoute k (recordsOf f l xs))
+      × (walked (recordsOf f l (refusedRoute f l es 0 xs)) ≡ Refused r)
+  refused-alone es xs r a e = refused-from es 0 xs r (rising (recordsOf f l xs) a) e

@@ -4,12 +4,12 @@ use Prim.Native.Nat.{ℕ, zero, suc, _+_, _≤_}
 use Prim.Native.Char.{code}
 use mathlib.Core.Bool.{Bool, false, cond, _||_}
 use mathlib.Core.List.{List, [], _∷_, map}
-use mathlib.Core.Option.{Option, some, bind}
+use mathlib.Core.Option.{Option, none, some, bind}
 use lib.Dec.{eqb}
 use lib.ListN.{getD, take}
 use Rattle.slices.specs.Order.{equal}
 use Rattle.refusals.specs.declared.Verdict.{Verdict}
-use Rattle.refusals.specs.declared.Verdict.the-variants.{Accepted}
+use Rattle.refusals.specs.declared.Verdict.the-variants.{Accepted, Refused}
 use Rattle.corrections.specs.Reading.{Entry, entry}
 use Rattle.corrections.specs.declared.Index.{Index}
 use Rattle.routes.specs.InTurn.{inTurn}
@@ -37,6 +37,15 @@ Within index = (k : ℕ) → getD (index .at) k 0 ≤ 60000
 abbrev pub sourceOf : Entry → ℕ
 sourceOf e = logSource (e .at)
 
+-- one thing where a line can't be applied, another where it can; the same where a route is refused, and where it is not
+abbrev pub ifApplied : {A : Type 0} → Option (List ℕ) → A → (List ℕ → A) → A
+ifApplied none a next = a
+ifApplied (some xs) a next = next xs
+
+abbrev pub ifRefused : {A : Type 0} → Verdict → A → A → A
+ifRefused Accepted a b = b
+ifRefused (Refused r) a b = a
+
 module _ (frozen log : List ℕ) where
   abbrev pub recordOfLine : Entry → List ℕ
   recordOfLine e = recordAt frozen log (sourceOf e)
@@ -53,6 +62,11 @@ module _ (frozen log : List ℕ) where
   unfoldable pub linesApplied : List Entry → List ℕ → Option (List ℕ)
   linesApplied [] xs = some xs
   linesApplied (e ∷ es) xs = bind (lineApplied e xs) (linesApplied es)
+
+  -- the first of the lines that can't be applied, by the offset of its record; 0 where each can
+  unfoldable pub failsAt : List Entry → List ℕ → ℕ
+  failsAt [] xs = 0
+  failsAt (e ∷ es) xs = ifApplied (lineApplied e xs) (e .at) (failsAt es)
 
   -- a line of the correction names the route of a source
   unfoldable pub touched : List Entry → ℕ → Bool
@@ -75,3 +89,11 @@ module _ (frozen log : List ℕ) where
       (cond (touched es x) (walked (map (recordAt frozen log) (x ∷ take n xs))) Accepted ∷
       touchedJudged es n xs ∷
       [])
+
+  -- the first of these routes that is refused, by its sources; no source where none is
+  unfoldable pub refusedRoute : List Entry → (judged : ℕ) → List ℕ → List ℕ
+  refusedRoute es k [] = []
+  refusedRoute es (suc k) (x ∷ xs) = refusedRoute es k xs
+  refusedRoute es zero (x ∷ xs) =
+      let n = together x xs in
+      ifRefused (cond (touched es x) (walked (map (recordAt frozen log) (x ∷ take n xs))) Accepted) (x ∷ take n xs) (refusedRoute es n xs)

@@ -5,6 +5,7 @@ use mathlib.Core.Bool.{Bool, true, cond, _&&_}
 use mathlib.Core.List.{List, [], _∷_}
 use lib.Dec.{leb}
 use Rattle.refusals.specs.Table.{tooManyRecords, logTooLong}
+use Rattle.refusals.specs.declared.Refusal.{Refusal}
 use Rattle.refusals.specs.declared.Verdict.{Verdict}
 use Rattle.refusals.specs.declared.Verdict.the-variants.{Accepted, Refused}
 use Rattle.corrections.specs.declared.Index.{Index}
@@ -12,8 +13,9 @@ use Rattle.routes.specs.InTurn.{inTurn}
 use Rattle.routes.specs.Sources.{inUse, sourcesFor}
 use Rattle.routes.specs.declared.Sources.{Sources}
 use Rattle.history.specs.Sets.{Numbers}
-use Rattle.applying.specs.Correct.{Outcome, stopped, reached}
+use Rattle.applying.specs.Correct.{noMore, Outcome, stopped, reached, faultAs}
 use Rattle.applying.specs.Run.{correctionsOf, ran}
+use Rattle.applying.specs.declared.Fault.{Fault}
 use Rattle.applying.specs.declared.Ran.{Ran}
 
 -- every line lies within the longest log
@@ -31,7 +33,7 @@ boundStage index state =
 
 abbrev pub bounded : Verdict → Outcome → Outcome
 bounded Accepted o = o
-bounded (Refused r) o = stopped r
+bounded (Refused r) o = stopped r noMore
 
 -- the corrections of a set among those of an index, in their order
 unfoldable pub ranOver : (frozen log : List ℕ) → Numbers → Index → Sources → Outcome
@@ -41,6 +43,9 @@ ranOver frozen log T index state =
 
 -- ---- as the code gives it
 
+abbrev pub refusedRun : Refusal → Fault → Ran
+refusedRun r fault = record { verdict = Refused r; records = sourcesFor []; fault = fault }
+
 unfoldable pub ranAs : Outcome → Ran
-ranAs (stopped r) = record { verdict = Refused r; records = sourcesFor [] }
-ranAs (reached xs) = record { verdict = Accepted; records = sourcesFor xs }
+ranAs (stopped r w) = refusedRun r (faultAs w)
+ranAs (reached xs) = record { verdict = Accepted; records = sourcesFor xs; fault = faultAs noMore }

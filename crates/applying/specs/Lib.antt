@@ -6,3 +6,4 @@ pub mod Run
 pub mod Procedures
 pub mod Bounds
 pub mod Origin
+pub mod Wrong

@@ -27,7 +27,7 @@ correctionsOf index = byCorrection 1 (index .corrections) (linesOf index)
 
 -- from where one outcome leaves the records, or no further
 abbrev pub onward : Outcome → (List ℕ → Outcome) → Outcome
-onward (stopped r) next = stopped r
+onward (stopped r w) next = stopped r w
 onward (reached xs) next = next xs
 
 -- corrections from number n on, those of a set alone, over the records as they stand

@@ -2,11 +2,12 @@
 // more than 480 sources, an index no more than 444 lines, and that each line lies within a log of 60,000 bytes.
 //
 // A line costs one search over the records, at most 480 comparisons of 29 bytes.
+ghost use mathlib.Core.Path.{_≡_};
 ghost use Prim.Native.Nat.{_-_, _≤_};
 ghost use Rattle.corrections.specs.Reading.{entry};
 ghost use Rattle.routes.specs.Sources.{inUse};
 ghost use Rattle.applying.specs.State.{Gives};
-ghost use Rattle.applying.specs.Apply.{Within, entriesFrom, lineApplied, linesApplied};
+ghost use Rattle.applying.specs.Apply.{Within, entriesFrom, lineApplied, linesApplied, failsAt};
 use crate::state::Change;
 use crate::state::put_in;
 use crate::state::take_out;
@@ -35,6 +36,12 @@ fn apply_line<'a>(
     put_in(frozen, log, state, source)
 }
 
+// What some lines come to; and the offset of the record of the first line that can't be applied, 0 where each can.
+pub(crate) struct Applied {
+    pub change: Change,
+    pub fails_at: u32,
+}
+
 // The lines of an index from `from` up to `to`, in their order. Not done where one of them can't be applied.
 pub(crate) fn apply_lines<'a>(
     frozen: &'a [u8],
@@ -43,9 +50,10 @@ pub(crate) fn apply_lines<'a>(
     from: usize,
     to: usize,
     state: Sources,
-) -> Change
+) -> Applied
     requires { ⌜ (state .count ≤ 480) × (to ≤ 444) × Within index ⌝ }
-    ensures { λ c. ⌜ Gives c (linesApplied (now (frozen .entry)) (now (log .entry)) (entriesFrom index from (to - from)) (inUse state)) ⌝ }
+    ensures { λ a. ⌜ Gives (a .change) (linesApplied (now (frozen .entry)) (now (log .entry)) (entriesFrom index from (to - from)) (inUse state))
+        × (a .«fails_at» ≡ failsAt (now (frozen .entry)) (now (log .entry)) (entriesFrom index from (to - from)) (inUse state)) ⌝ }
 {
     let mut standing = state;
     let mut k = from;
@@ -55,13 +63,20 @@ pub(crate) fn apply_lines<'a>(
         let n = index.correction[k];
         let change = apply_line(frozen, log, standing, letter, at, n);
         if !change.done {
-            return change;
+            return Applied {
+                change: change,
+                fails_at: at,
+            };
         }
         standing = change.state;
         k += 1;
     }
-    Change {
+    let all = Change {
         done: true,
         state: standing,
+    };
+    Applied {
+        change: all,
+        fails_at: 0,
     }
 }

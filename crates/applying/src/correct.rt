@@ -5,17 +5,22 @@ ghost use Rattle.routes.specs.Known.{Known};
 ghost use Rattle.routes.specs.Sources.{inUse};
 ghost use Rattle.applying.specs.Apply.{Within, entriesFrom};
 ghost use Rattle.applying.specs.Correct.{corrected, Comes};
+use crate::Fault;
 use crate::apply::apply_lines;
+use crate::faults::line_fault;
+use crate::faults::route_fault;
 use crate::judge::judge_touched;
+use crate::no_fault;
 use corrections::Index;
 use refusals::Refusal;
 use refusals::Verdict;
 use routes::Sources;
 
-// What a correction comes to: the refusal, or the state that it leaves.
+// What a correction comes to: the refusal and what is wrong, or the state that it leaves.
 pub(crate) struct Corrected {
     pub verdict: Verdict,
     pub state: Sources,
+    pub fault: Fault,
 }
 
 // Applies correction n, whose lines are those of the index from `from` up to `to`.
@@ -32,23 +37,35 @@ pub(crate) fn correct<'a>(
     requires { ⌜ (state .count ≤ 480) × (to ≤ 444) × Within index × Known (now frozen) (now log) (now known) ⌝ }
     ensures { λ c. ⌜ Comes c (corrected (now (frozen .entry)) (now (log .entry)) n (entriesFrom index from (to - from)) (inUse state)) ⌝ }
 {
-    let change = apply_lines(frozen, log, index, from, to, state);
+    let applied = apply_lines(frozen, log, index, from, to, state);
+    let change = applied.change;
     let next = change.state;
     if !change.done {
+        let fault = line_fault(applied.fails_at);
         return Corrected {
             verdict: Verdict::Refused(Refusal::does_not_apply(n)),
             state: state,
+            fault: fault,
         };
     }
-    let verdict = judge_touched(frozen, log, known, index, from, to, next);
+    let judged = judge_touched(frozen, log, known, index, from, to, next);
+    let verdict = judged.verdict;
     match verdict {
-        Verdict::Accepted => Corrected {
-            verdict: Verdict::Accepted,
-            state: next,
-        },
-        Verdict::Refused(r) => Corrected {
-            verdict: Verdict::Refused(Refusal::route_refused(n, r.number)),
-            state: state,
-        },
+        Verdict::Accepted => {
+            let fault = no_fault();
+            Corrected {
+                verdict: Verdict::Accepted,
+                state: next,
+                fault: fault,
+            }
+        }
+        Verdict::Refused(r) => {
+            let fault = route_fault(next, judged.from, judged.to, r);
+            Corrected {
+                verdict: Verdict::Refused(Refusal::route_refused(n, r.number)),
+                state: state,
+                fault: fault,
+            }
+        }
     }
 }

@@ -8,8 +8,8 @@ ghost use mathlib.Core.Path.{_≡_};
 ghost use Prim.Native.Nat.{_+_, _-_, _≤_, _<_};
 ghost use lib.ListN.{drop, getD};
 ghost use Rattle.routes.specs.Known.{Known};
-ghost use Rattle.routes.specs.Sources.{inUse};
-ghost use Rattle.applying.specs.Apply.{Within, entriesFrom, touched, together, touchedJudged};
+ghost use Rattle.routes.specs.Sources.{inUse, sourcesIn};
+ghost use Rattle.applying.specs.Apply.{Within, entriesFrom, touched, together, touchedJudged, refusedRoute};
 use crate::same_route;
 use corrections::Index;
 use refusals::Verdict;
@@ -58,6 +58,13 @@ fn route_end<'a>(frozen: &'a [u8], log: &'a [u8], state: Sources, i: usize) -> u
     k
 }
 
+// A verdict on routes, and where the one that is refused stands in the state: from the place `from` on up to `to`, which are 0 where none is.
+pub(crate) struct Judged {
+    pub verdict: Verdict,
+    pub from: usize,
+    pub to: usize,
+}
+
 // Judges the routes that a line from `from` up to `to` names, in rising order; the first that is refused gives the verdict.
 pub(crate) fn judge_touched<'a>(
     frozen: &'a [u8],
@@ -67,9 +74,11 @@ pub(crate) fn judge_touched<'a>(
     from: usize,
     to: usize,
     state: Sources,
-) -> Verdict
+) -> Judged
     requires { ⌜ (state .count ≤ 480) × (to ≤ 444) × Within index × Known (now frozen) (now log) (now known) ⌝ }
-    ensures { λ r. ⌜ r ≡ touchedJudged (now (frozen .entry)) (now (log .entry)) (entriesFrom index from (to - from)) 0 (inUse state) ⌝ }
+    ensures { λ r. ⌜ (r .verdict ≡ touchedJudged (now (frozen .entry)) (now (log .entry)) (entriesFrom index from (to - from)) 0 (inUse state))
+        × (sourcesIn state (r .from) (r .to) ≡ refusedRoute (now (frozen .entry)) (now (log .entry)) (entriesFrom index from (to - from)) 0 (inUse state))
+        × (r .from ≤ r .to) × (r .to ≤ state .count) ⌝ }
 {
     let count = state.count;
     let mut i = 0;
@@ -81,11 +90,19 @@ pub(crate) fn judge_touched<'a>(
             match verdict {
                 Verdict::Accepted => {}
                 Verdict::Refused(r) => {
-                    return Verdict::Refused(r);
+                    return Judged {
+                        verdict: Verdict::Refused(r),
+                        from: i,
+                        to: end,
+                    };
                 }
             }
         }
         i = end;
     }
-    Verdict::Accepted
+    Judged {
+        verdict: Verdict::Accepted,
+        from: 0,
+        to: 0,
+    }
 }

@@ -3,6 +3,7 @@
 mod apply;
 mod bounds;
 mod correct;
+mod faults;
 mod judge;
 mod known;
 mod series;
@@ -10,11 +11,12 @@ mod state;
 
 ghost use mathlib.Core.Path.{_≡_};
 ghost use Rattle.applying.specs.Apply.{sameRoute};
-ghost use Rattle.applying.specs.Correct.{stopped};
+ghost use Rattle.applying.specs.Correct.{noMore, faultAs};
 ghost use Rattle.applying.specs.Run.{marked};
-ghost use Rattle.applying.specs.Bounds.{ranOver, ranAs};
+ghost use Rattle.applying.specs.Bounds.{ranOver, refusedRun, ranAs};
 use bounds::bounds;
 use corrections::Index;
+use faults::line_fault;
 use known::known_of;
 use refusals::MOST_RECORDS;
 use refusals::Refusal;
@@ -22,18 +24,35 @@ use refusals::Verdict;
 use routes::Sources;
 use routes::record_at;
 use series::run_marked;
-use state::cleared;
+use state::range_of;
 
-// What some corrections come to: the refusal, or where the records lie that they leave; nothing but zeros beside a refusal, and zeros past
-// the count.
+// What is wrong where a correction fails. For 10 `at` is the offset in the log of the record whose line can't be applied. For 11 `route` is
+// where the records of the refused route lie, as the correction leaves them, and `inner` the refusal of these alone, its place counted from
+// the route's start. Nothing but zeros otherwise, and zeros past the route's count.
+pub struct Fault {
+    pub at: u32,
+    pub route: Sources,
+    pub inner: Refusal,
+}
+
+// What some corrections come to: the refusal and what is wrong, or where the records lie that they leave; no records beside a refusal, and
+// zeros past the count.
 pub struct Ran {
     pub verdict: Verdict,
     pub records: Sources,
+    pub fault: Fault,
 }
 
-// What is left on a refusal: nothing but zeros beside it.
-fn refused_run(refusal: Refusal) -> Ran
-    ensures { λ r. ⌜ r ≡ ranAs (stopped refusal) ⌝ }
+// Nothing that is known to be wrong.
+pub fn no_fault() -> Fault
+    ensures { λ r. ⌜ r ≡ faultAs noMore ⌝ }
+{
+    line_fault(0)
+}
+
+// What is left on a refusal: no records, and what is wrong.
+fn refused_run(refusal: Refusal, fault: Fault) -> Ran
+    ensures { λ r. ⌜ r ≡ refusedRun refusal fault ⌝ }
 {
     Ran {
         verdict: Verdict::Refused(refusal),
@@ -41,6 +60,7 @@ fn refused_run(refusal: Refusal) -> Ran
             count: 0,
             at: [0u32; MOST_RECORDS],
         },
+        fault: fault,
     }
 }
 
@@ -69,7 +89,8 @@ pub fn run<'a>(frozen: &'a [u8], log: &'a [u8], index: Index, marks: &[u8], stat
     match bound {
         Verdict::Accepted => {}
         Verdict::Refused(r) => {
-            return refused_run(r);
+            let fault = no_fault();
+            return refused_run(r, fault);
         }
     }
     let known = known_of(frozen, log, index, state);
@@ -78,13 +99,16 @@ pub fn run<'a>(frozen: &'a [u8], log: &'a [u8], index: Index, marks: &[u8], stat
     match verdict {
         Verdict::Accepted => {}
         Verdict::Refused(r) => {
-            return refused_run(r);
+            let fault = done.fault;
+            return refused_run(r, fault);
         }
     }
     let left = done.state;
-    let records = cleared(left);
+    let records = range_of(left, 0, left.count);
+    let fault = no_fault();
     Ran {
         verdict: Verdict::Accepted,
         records: records,
+        fault: fault,
     }
 }

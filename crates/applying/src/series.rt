@@ -10,6 +10,7 @@ ghost use Rattle.applying.specs.Run.{leadingLines, correctionsOf, ran, m
 use crate::correct::Corrected;
 use crate::correct::correct;
 use crate::is_marked;
+use crate::no_fault;
 use corrections::Index;
 use refusals::Verdict;
 use routes::Sources;
@@ -49,9 +50,11 @@ fn correct_if<'a>(
     if marked {
         return correct(frozen, log, known, index, from, to, n, state);
     }
+    let fault = no_fault();
     Corrected {
         verdict: Verdict::Accepted,
         state: state,
+        fault: fault,
     }
 }
 
@@ -78,19 +81,18 @@ pub(crate) fn run_marked<'a>(
         let verdict = next.verdict;
         match verdict {
             Verdict::Accepted => {}
-            Verdict::Refused(r) => {
-                return Corrected {
-                    verdict: Verdict::Refused(r),
-                    state: state,
-                };
+            Verdict::Refused(_) => {
+                return next;
             }
         }
         standing = next.state;
         k = to;
         n += 1;
     }
+    let fault = no_fault();
     Corrected {
         verdict: Verdict::Accepted,
         state: standing,
+        fault: fault,
     }
 }

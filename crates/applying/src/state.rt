@@ -5,7 +5,7 @@ ghost use Prim.Native.Nat.{_≤_, _<_};
 ghost use lib.ListN.{drop};
 ghost use Rattle.slices.specs.Order.{order};
 ghost use Rattle.routes.specs.Places.{placeOf};
-ghost use Rattle.routes.specs.Sources.{inUse, sourcesFor};
+ghost use Rattle.routes.specs.Sources.{inUse, sourcesIn, sourcesFor};
 ghost use Rattle.applying.specs.State.{notLess, putAt, leftOut, countBefore, hasPlace, isRecord, withSource, withoutRecord, Gives};
 use refusals::MOST_RECORDS;
 use routes::RECORD_WIDTH;
@@ -185,16 +185,22 @@ pub(crate) fn take_out<'a>(frozen: &'a [u8], log: &'a [u8], state: Sources, rec:
     }
 }
 
-// The state with zeros past the sources that count.
-pub(crate) fn cleared(state: Sources) -> Sources
-    requires { ⌜ state .count ≤ 480 ⌝ }
-    ensures { λ r. ⌜ r ≡ sourcesFor (inUse state) ⌝ }
+// The sources of a state from one on up to another, with zeros past them.
+pub(crate) fn range_of(state: Sources, from: usize, to: usize) -> Sources
+    requires { ⌜ (from ≤ to) × (to ≤ state .count) × (state .count ≤ 480) ⌝ }
+    ensures { λ r. ⌜ r ≡ sourcesFor (sourcesIn state from to) ⌝ }
 {
-    let mut next = state;
-    let mut k = state.count;
-    while k < MOST_RECORDS {
-        next.at[k] = 0;
-        k += 1;
+    let mut found = Sources {
+        count: 0,
+        at: [0u32; MOST_RECORDS],
+    };
+    let mut i = from;
+    while i < to {
+        let k = found.count;
+        let source = state.at[i];
+        found.at[k] = source;
+        found.count = k + 1;
+        i += 1;
     }
-    next
+    found
 }

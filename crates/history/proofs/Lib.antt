@@ -7,6 +7,7 @@ mod Select
 mod Accept
 mod Earlier
 pub mod Closure
+pub mod Relied
 mod Listed
 pub mod Statements
 mod Vectors

@@ -4,7 +4,7 @@ use mathlib.Core.Path.{_≡_}
 use mathlib.Core.Bool.{Bool, true, cond}
 use mathlib.Core.List.{List, [], _∷_}
 use mathlib.Core.Logic.{ite}
-use Prim.Native.Nat.{ℕ, zero, suc, _≤_}
+use Prim.Native.Nat.{ℕ, zero, suc, _≤_, _<_}
 use native.Mathlib.Decide.{ℕ-discrete}
 use lib.ListN.{getD, length}
 use Rattle.history.specs.Format.{Format}
@@ -55,6 +55,13 @@ module _ (F : Format) where
   abbrev pub ClosedPlainly : List (Correction F) → Numbers → Type 0
   ClosedPlainly log T =
       (n p : ℕ) (ρ : Route) → suc n ≤ length log → suc n ∈ T → Touches F (numbered log (suc n)) ρ → p ≤ n → Touches F (numbered log p) ρ → p ∈ T
+
+  -- Correction c relies directly on correction p by a route: p is earlier, both touch it, and none between them does.
+  pub record ReliesBy (log : List (Correction F)) (p c : ℕ) (ρ : Route) : Type 0 where
+    pub later : p < c
+    pub touches : Touches F (numbered log c) ρ
+    pub before : Touches F (numbered log p) ρ
+    pub between : (q : ℕ) → p < q → q < c → ¬ Touches F (numbered log q) ρ
 
   -- from the last correction down to the first: one that is in the set adds what it relies on
   unfoldable pub addRelied : Log → ℕ → Correction F → Numbers → Numbers

@@ -25,7 +25,7 @@ use Rattle.corrections.proofs.FrontLaws.{not-said}
 use Rattle.corrections.proofs.Legality.{verdict-said}
 use Rattle.applying.specs.Apply.{Within, entriesFrom}
 use Rattle.applying.specs.Bounds.{ranOver, ranAs}
-use Rattle.applying.specs.Correct.{Outcome, stopped, reached, corrected}
+use Rattle.applying.specs.Correct.{Wrong, noMore, Outcome, stopped, reached, corrected}
 use Rattle.applying.specs.Run.{byCorrection, onward, ran, marked}
 use Rattle.selection.specs.Reliance.{reliances, Taken}
 use Rattle.selection.specs.Pick.{
@@ -40,16 +40,20 @@ use Rattle.selection.specs.Pick.{
   Pick,
   refusedBy,
   picked,
+  judgedFirst,
   ranFirst,
   outcomeVerdict,
   carried,
   takenOf,
-  logJudged,
-  logVerdict,
+  pickBy,
   pickFrom,
   pickOf,
   pickedAs,
 }
+use Rattle.selection.specs.Failing.{lineAt, failureWith, faultOf, failureAs, judgedThen, outcomeOf, failureOf, settled, settledFrom, settledOf}
+use Rattle.selection.specs.Reasons.{reasonsBy, unlessStopped, reasonsFrom, reasonsOf, reasonsWith, reasonsAs}
+use Rattle.selection.specs.declared.Explained.{Explained}
+use Rattle.selection.specs.declared.Failure.{Failure}
 use Rattle.selection.specs.declared.Picked.{Picked}
 use Rattle.selection.specs.declared.carry.Members.{Members}
 use Rattle.applying.specs.declared.Ran.{Ran}
@@ -122,17 +126,29 @@ module _ (f l : List ℕ) (index : Index) (e : index ≡ indexOf (opened f l)) w
     unfolding pickOf
     pick-opened w q = q ∙ ap (λ (o : Reading). pickedAs (pickFrom f l w o)) (sym opened-said)
 
-    pub log-opened : {x : Verdict} → x ≡ outcomeVerdict (carried f l everything (index .corrections) (entriesFrom index 0 (index .count))) → x ≡ logVerdict f l
-    unfolding logVerdict
-    log-opened q = q ∙ ap (logJudged f l) (sym opened-said)
+    pub failing-opened : {x : Failure} → x ≡ failureAs l (carried f l everything (index .corrections) (entriesFrom index 0 (index .count))) → x ≡ failureOf f l
+    unfolding failureOf
+    failing-opened q = q ∙ ap (λ (o : Reading). failureAs l (outcomeOf f l o)) (sym opened-said)
+
+    pub reasons-opened : (w : List ℕ) {p : Explained}
+        → p ≡ reasonsAs l (settledFrom f l w (said (index .corrections) (entriesFrom index 0 (index .count)))) (reasonsFrom f l w (said (index .corrections) (entriesFrom index 0 (index .count))))
+        → p ≡ reasonsAs l (settledOf f l w) (reasonsOf f l w)
+    unfolding settledOf reasonsOf
+    reasons-opened w q = q ∙ ap (λ (o : Reading). reasonsAs l (settledFrom f l w o) (reasonsFrom f l w o)) (sym opened-said)
 
   pub pick-not-opened : (w : List ℕ) {r : Refusal} {p : Picked} → index .verdict ≡ Refused r → p ≡ pickedAs (refusedBy r) → p ≡ pickedAs (pickOf f l w)
   unfolding pickOf
   pick-not-opened w v q = q ∙ ap (λ (o : Reading). pickedAs (pickFrom f l w o)) (sym (opened-refused v))
 
-  pub log-not-opened : {r : Refusal} → index .verdict ≡ Refused r → Refused r ≡ logVerdict f l
-  unfolding logVerdict
-  log-not-opened v = ap (logJudged f l) (sym (opened-refused v))
+  pub failing-not-opened : {r : Refusal} {x : Failure} → index .verdict ≡ Refused r → x ≡ failureAs l (stopped r noMore) → x ≡ failureOf f l
+  unfolding failureOf
+  failing-not-opened v q = q ∙ ap (λ (o : Reading). failureAs l (outcomeOf f l o)) (sym (opened-refused v))
+
+  pub reasons-not-opened : (w : List ℕ) {r : Refusal} {x : Failure} {p : Explained} → index .verdict ≡ Refused r → x ≡ failureAs l (stopped r noMore) → p ≡ reasonsWith x []
+      → p ≡ reasonsAs l (settledOf f l w) (reasonsOf f l w)
+  unfolding settledOf reasonsOf
+  reasons-not-opened w v e q =
+      q ∙ ap (λ (y : Failure). reasonsWith y []) e ∙ ap (λ (o : Reading). reasonsAs l (settledFrom f l w o) (reasonsFrom f l w o)) (sym (opened-refused v))
 
 -- ---- sets that agree on the corrections of a log
 
@@ -154,10 +170,10 @@ ran-same f l S T n (es ∷ ess) xs h =
     ∙ by (cond (T n) (corrected f l n es xs) (reached xs)) rest
   where
     by : (o : Outcome) → ((ys : List ℕ) → ran f l S (n + 1) ess ys ≡ ran f l T (n + 1) ess ys) → onward o (ran f l S (n + 1) ess) ≡ onward o (ran f l T (n + 1) ess)
-    by (stopped r) rest = refl
+    by (stopped r w) rest = refl
     by (reached ys) rest = rest ys
 
-members-same : (S T : Numbers) (n m : ℕ) → ((i : ℕ) → i < m → S (n + i) ≡ T (n + i)) → membersFrom S n m ≡ membersFrom T n m
+pub members-same : (S T : Numbers) (n m : ℕ) → ((i : ℕ) → i < m → S (n + i) ≡ T (n + i)) → membersFrom S n m ≡ membersFrom T n m
 unfolding membersFrom
 members-same S T n zero h = refl
 members-same S T n (suc m) h =
@@ -191,16 +207,27 @@ module _ (f l : List ℕ) (T : Numbers) (index : Index) (r : Reads l index) {s :
 
 ran-verdict : (o : Outcome) → ranAs o .verdict ≡ outcomeVerdict o
 unfolding ranAs
-ran-verdict (stopped r) = refl
+ran-verdict (stopped r w) = refl
 ran-verdict (reached xs) = refl
 
 -- ---- the whole log
 
-pub whole-verdict : (f l : List ℕ) (index : Index) (r : Reads l index) {s : Sources} → s ≡ sourcesOf f → (x : Ran) → x ≡ ranAs (ranOver f l (marked (replicate 201 1)) index s)
-    → x .verdict ≡ outcomeVerdict (carried f l everything (index .corrections) (entriesFrom index 0 (index .count)))
-whole-verdict f l index r e x g =
-    ap (λ (y : Ran). y .verdict) (run-carried f l (marked (replicate 201 1)) index r e x g) ∙ ran-verdict _
-    ∙ ap outcomeVerdict (carried-same f l (marked (replicate 201 1)) everything (index .corrections) (entriesFrom index 0 (index .count)) (λ i h. all-marked i (omega (arith, corrections-few l index r))))
+ran-fault : (o : Outcome) → ranAs o .fault ≡ faultOf o
+unfolding ranAs
+ran-fault (stopped r w) = refl
+ran-fault (reached xs) = refl
+
+pub whole-failing : (f l : List ℕ) (index : Index) (r : Reads l index) {s : Sources} → s ≡ sourcesOf f → (x : Ran) → x ≡ ranAs (ranOver f l (marked (replicate 201 1)) index s)
+    → {line : ℕ} → line ≡ lineAt l (x .fault .at)
+    → record { verdict = x .verdict; line = line; fault = x .fault } ≡ failureAs l (carried f l everything (index .corrections) (entriesFrom index 0 (index .count)))
+unfolding failureAs
+whole-failing f l index r e x g n =
+    let o = carried f l everything (index .corrections) (entriesFrom index 0 (index .count)) in
+    let q : x ≡ ranAs o =
+    run-carried f l (marked (replicate 201 1)) index r e x g
+    ∙ ap ranAs (carried-same f l (marked (replicate 201 1)) everything (index .corrections) (entriesFrom index 0 (index .count)) (λ i h. all-marked i (omega (arith, corrections-few l index r)))) in
+    ap (λ (k : ℕ). record { verdict = x .verdict; line = k; fault = x .fault }) n
+    ∙ ap₂ (failureWith l) (ap (λ (y : Ran). y .verdict) q ∙ ran-verdict o) (ap (λ (y : Ran). y .fault) q ∙ ran-fault o)
 
 -- ---- the marked corrections alone
 
@@ -210,13 +237,13 @@ fromRan ns o = pickedAs (ranFirst o (picked ns))
 
 ran-refused : (ns : List ℕ) (o : Outcome) {q : Refusal} → ranAs o .verdict ≡ Refused q → fromRan ns o ≡ pickedAs (refusedBy q)
 unfolding ranAs
-ran-refused ns (stopped q) e = ap (λ (y : Refusal). pickedAs (refusedBy y)) (same-refusal e)
+ran-refused ns (stopped q w) e = ap (λ (y : Refusal). pickedAs (refusedBy y)) (same-refusal e)
 ran-refused ns (reached xs) e = absurd (never (sym e))
 
 ran-picked : (ns : List ℕ) (o : Outcome) → ranAs o .verdict ≡ Accepted
     → record { verdict = Accepted; count = length ns; taken = padded 200 ns; records = ranAs o .records } ≡ fromRan ns o
 unfolding ranAs pickedAs
-ran-picked ns (stopped q) e = absurd (never e)
+ran-picked ns (stopped q w) e = absurd (never e)
 ran-picked ns (reached xs) e = refl
 
 module _ (f l : List ℕ) (T : Numbers) (index : Index) (r : Reads l index) {s : Sources} (e : s ≡ sourcesOf f) (x : Ran) (g : x ≡ ranAs (ranOver f l T index s)) where
@@ -243,27 +270,61 @@ module _ (f l : List ℕ) (T : Numbers) (index : Index) (r : Reads l index) {s :
       ap₂ (λ (y : Members) (z : Sources). record { verdict = Accepted; count = y .count; taken = y .at; records = z }) a (ap (λ (y : Ran). y .records) was)
       ∙ ran-picked ns here (sym (ap (λ (y : Ran). y .verdict) was) ∙ v)
 
--- ---- the pick once a file and a log are open
+-- ---- what is settled once a file and a log are open
 
-stopped-by : (o : Outcome) {r : Refusal} → outcomeVerdict o ≡ Refused r → o ≡ stopped r
-stopped-by (stopped s) e = ap stopped (same-refusal e)
-stopped-by (reached xs) e = absurd (never (sym e))
+failing-verdict : (l : List ℕ) (o : Outcome) → failureAs l o .verdict ≡ outcomeVerdict o
+unfolding failureAs
+failing-verdict l o = refl
 
-runs-on : (o : Outcome) → outcomeVerdict o ≡ Accepted → (p : Pick) → ranFirst o (λ _. p) ≡ p
-runs-on (stopped r) e p = absurd (never e)
-runs-on (reached xs) e p = refl
+pub refused-verdict : (l : List ℕ) (w : Wrong) (r : Refusal) {x : Failure} → x ≡ failureAs l (stopped r w) → x .verdict ≡ Refused r
+refused-verdict l w r e = ap (λ (y : Failure). y .verdict) e ∙ failing-verdict l (stopped r w)
 
 module _ (f l ws : List ℕ) (n : ℕ) (es : List Entry) {v : Verdict} (q : v ≡ wantedStage n 1 ws) where
-  pub wanted-refused : {r : Refusal} {p : Picked} → v ≡ Refused r → p ≡ pickedAs (refusedBy r) → p ≡ pickedAs (pickFrom f l ws (said n es))
-  wanted-refused e z = z ∙ rw (sym q ∙ e)
+  pub settled-wanted : {r : Refusal} {x : Failure} → v ≡ Refused r → x ≡ failureAs l (stopped r noMore) → x ≡ failureAs l (settled f l ws n es)
+  unfolding settled
+  settled-wanted e z = z ∙ rw (sym q ∙ e)
 
-  module _ (a : v ≡ Accepted) {x : Verdict} (y : x ≡ outcomeVerdict (carried f l everything n es)) where
-    pub log-refused : {r : Refusal} {p : Picked} → x ≡ Refused r → p ≡ pickedAs (refusedBy r) → p ≡ pickedAs (pickFrom f l ws (said n es))
-    log-refused e z = z ∙ rw (sym q ∙ a, stopped-by (carried f l everything n es) (sym y ∙ e))
+  pub settled-log : {x : Failure} → v ≡ Accepted → x ≡ failureAs l (carried f l everything n es) → x ≡ failureAs l (settled f l ws n es)
+  unfolding settled
+  settled-log e z = z ∙ rw (sym q ∙ e)
 
-    pub taken-carried : {p : Picked} → x ≡ Accepted → p ≡ pickedAs (ranFirst (carried f l (takenOf f l n es ws) n es) (picked (membersFrom (takenOf f l n es ws) 1 n)))
-        → p ≡ pickedAs (pickFrom f l ws (said n es))
-    taken-carried e z = z ∙ rw (sym q ∙ a) (ap pickedAs (sym (runs-on (carried f l everything n es) (sym y ∙ e) _)))
+-- A refusal is that of the pick, and leaves no reasons; otherwise the pick is what the corrections taken come to.
+module _ (f l ws : List ℕ) (n : ℕ) (es : List Entry) {x : Failure} (s : x ≡ failureAs l (settled f l ws n es)) where
+  said-verdict : outcomeVerdict (settled f l ws n es) ≡ x .verdict
+  said-verdict = sym (failing-verdict l (settled f l ws n es)) ∙ ap (λ (y : Failure). y .verdict) (sym s)
+
+  pub settled-refused : {r : Refusal} → x .verdict ≡ Refused r → refusedBy r ≡ pickFrom f l ws (said n es)
+  unfolding settled
+  settled-refused {r} e = by (wantedStage n 1 ws) (carried f l everything n es) (said-verdict ∙ e)
+    where
+      by : (v : Verdict) (o : Outcome) → outcomeVerdict (judgedThen v o) ≡ Refused r → refusedBy r ≡ judgedFirst v (ranFirst o (λ _. pickBy f l (takenOf f l n es ws) n es))
+      by Accepted (stopped q w) h = ap refusedBy (sym (same-refusal h))
+      by Accepted (reached xs) h = absurd (never (sym h))
+      by (Refused q) o h = ap refusedBy (sym (same-refusal h))
+
+  pub settled-stands : x .verdict ≡ Accepted → pickBy f l (takenOf f l n es ws) n es ≡ pickFrom f l ws (said n es)
+  unfolding settled
+  settled-stands e = by (wantedStage n 1 ws) (carried f l everything n es) (said-verdict ∙ e)
+    where
+      by : (v : Verdict) (o : Outcome) → outcomeVerdict (judgedThen v o) ≡ Accepted
+          → pickBy f l (takenOf f l n es ws) n es ≡ judgedFirst v (ranFirst o (λ _. pickBy f l (takenOf f l n es ws) n es))
+      by Accepted (stopped q w) h = absurd (never h)
+      by Accepted (reached xs) h = refl
+      by (Refused q) o h = absurd (never h)
+
+  pub no-reason : {r : Refusal} → x .verdict ≡ Refused r → [] ≡ reasonsFrom f l ws (said n es)
+  no-reason e = by (settled f l ws n es) (said-verdict ∙ e)
+    where
+      by : {r : Refusal} (o : Outcome) → outcomeVerdict o ≡ Refused r → [] ≡ unlessStopped f l o (reasonsBy f l n es ws)
+      by (stopped q w) h = refl
+      by (reached xs) h = absurd (never (sym h))
+
+  pub all-reasons : x .verdict ≡ Accepted → reasonsBy f l n es ws ≡ reasonsFrom f l ws (said n es)
+  all-reasons e = by (settled f l ws n es) (said-verdict ∙ e)
+    where
+      by : (o : Outcome) → outcomeVerdict o ≡ Accepted → reasonsBy f l n es ws ≡ unlessStopped f l o (reasonsBy f l n es ws)
+      by (stopped q w) h = absurd (never h)
+      by (reached xs) h = refl
 
 -- what is marked is taken
 pub marks-taken : (f l ws marks : List ℕ) (index : Index) (r : Reads l index) {relied : List ℕ} → wantedStage (index .corrections) 1 ws ≡ Accepted

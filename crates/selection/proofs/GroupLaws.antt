@@ -102,6 +102,47 @@ line-of (es ∷ ess) d (suc n) i h =
     let w = line-of ess d n i h in
     (length es + w .0, omega (arith, length-append es (flat ess), w .1), getD-append-add es (flat ess) (w .0) d ∙ w .2)
 
+-- ---- the corrections of the lines rise
+
+from-least : (n : ℕ) (ess : List (List Entry)) → Grouped n ess → (d : Entry) (k : ℕ) → k < length (flat ess) → n ≤ getD (flat ess) k d .correction
+unfolding flat
+from-least n [] g d k h = absurd (omega arith)
+from-least n (es ∷ ess) g d k h =
+    split (ltb k (length es))
+    (λ t.
+    let w = ltb-true k (length es) t in
+    let e = List·getD-append es (flat ess) d k w in
+    let a = all-at n es (g .0) d k w in
+    omega (arith, ap (λ (x : Entry). x .correction) e, a))
+    (λ t.
+    let i : ℕ = k - length es in
+    let q : k ≡ length es + i = omega (arith, ltb-false k (length es) t) in
+    let e : getD (es ++ flat ess) k d ≡ getD (flat ess) i d = ap (λ (j : ℕ). getD (es ++ flat ess) j d) q ∙ getD-append-add es (flat ess) i d in
+    let a = from-least (n + 1) ess (g .1) d i (omega (arith, length-append es (flat ess))) in
+    omega (arith, ap (λ (x : Entry). x .correction) e, a))
+
+pub rising : (n : ℕ) (ess : List (List Entry)) → Grouped n ess → (d : Entry) (j k : ℕ) → j ≤ k → k < length (flat ess)
+    → getD (flat ess) j d .correction ≤ getD (flat ess) k d .correction
+unfolding flat
+rising n [] g d j k l h = absurd (omega arith)
+rising n (es ∷ ess) g d j k l h =
+    split (ltb j (length es))
+    (λ t.
+    let w = ltb-true j (length es) t in
+    let e = List·getD-append es (flat ess) d j w in
+    let a = all-at n es (g .0) d j w in
+    let c = from-least n (es ∷ ess) g d k h in
+    omega (arith, ap (λ (x : Entry). x .correction) e, a, c))
+    (λ t.
+    let i : ℕ = j - length es in
+    let m : ℕ = k - length es in
+    let p : j ≡ length es + i = omega (arith, ltb-false j (length es) t) in
+    let q : k ≡ length es + m = omega (arith, ltb-false j (length es) t) in
+    let e : getD (es ++ flat ess) j d ≡ getD (flat ess) i d = ap (λ (x : ℕ). getD (es ++ flat ess) x d) p ∙ getD-append-add es (flat ess) i d in
+    let u : getD (es ++ flat ess) k d ≡ getD (flat ess) m d = ap (λ (x : ℕ). getD (es ++ flat ess) x d) q ∙ getD-append-add es (flat ess) m d in
+    let a = rising (n + 1) ess (g .1) d i m (omega arith) (omega (arith, length-append es (flat ess))) in
+    omega (arith, ap (λ (x : Entry). x .correction) e, ap (λ (x : Entry). x .correction) u, a))
+
 -- ---- the lines of a legal log
 
 from-own : (n at : ℕ) (xs : List Change) → AllOf n (entriesFrom n at xs)

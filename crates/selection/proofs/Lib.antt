@@ -7,11 +7,15 @@ mod LastLaws
 mod IndexLaws
 pub mod TakenLaws
 mod MemberLaws
+mod ExplainLaws
 mod CarryLaws
 pub mod LogLaws
 pub mod OpenedLaws
 pub mod PickSteps
+pub mod FailingLaws
+mod ReasonSteps
 pub mod Demand
+pub mod Because
 pub mod Origins
 mod StoredLaws
 pub mod Answers

@@ -2,6 +2,7 @@
 -- what the theory of selection runs over its records.
 -- Assumes nothing.
 use mathlib.Core.Path.{_≡_, refl, sym, ap, subst, _∙_}
+use mathlib.Core.Bool.{true}
 use mathlib.Core.List.{List, [], _∷_, map}
 use mathlib.Core.Option.{some}
 use Prim.Native.Nat.{ℕ, suc}
@@ -9,6 +10,7 @@ use native.Mathlib.Omega.{arith}
 use lib.ListN.{length}
 use lib.Seq.{take-take}
 use borrow.Author.Tests.{le-ltb}
+use Rattle.refusals.specs.declared.Refusal.{Refusal}
 use Rattle.refusals.specs.declared.Verdict.{Verdict}
 use Rattle.refusals.specs.declared.Verdict.the-variants.{Accepted, Refused}
 use Rattle.corrections.specs.Reading.{Entry, Reading, refused, said, readLog}
@@ -27,12 +29,15 @@ use Rattle.history.specs.Format as H
 use Rattle.history.specs.Apply.{Correction, run}
 use Rattle.history.specs.Sets.{Numbers, chooseFrom, choose}
 use Rattle.history.proofs.Cases.{every-some}
+use Rattle.applying.specs.Correct.{Wrong, stopped}
 use Rattle.applying.specs.Run.{byCorrection}
+use Rattle.applying.specs.Wrong.{FirstWrong}
 use Rattle.selection.specs.Pick.{lengthStage, ifAccepted, opened, everything, carried}
 use Rattle.applying.specs.Procedures.{procedures, operations, logOf}
 use Rattle.applying.proofs.Procedures.{accepted-iff}
 use Rattle.applying.proofs.Kept.{addsIn, WideLog, Placed, placed-run}
 use Rattle.applying.proofs.Bridge.{filed, ran-records}
+use Rattle.applying.proofs.WrongLaws.{first-wrong}
 use Rattle.selection.proofs.GroupLaws.{said-same}
 use Rattle.selection.proofs.LogLaws.{log-operations, wide-log, adds-log}
 
@@ -106,16 +111,28 @@ module _ (frozen log : List ℕ) where
       few = omega (arith, at-most 480 frozen, adds-log (o .legal .corrections), o .legal .room);
     }
 
+    -- the same of the file's sources and the log's lines
+    wide-lines : WideLog (operations frozen log (byCorrection 1 n es))
+    wide-lines = subst WideLog (sym (o .lines)) (wide-log (o .legal .corrections) (o .legal .sound))
+
+    placed-sources : Placed (map (recordAt frozen log) (inUse (sourcesOf frozen))) (addsIn (operations frozen log (byCorrection 1 n es)))
+    placed-sources =
+        subst (λ (c : List (Correction procedures)). Placed (map (recordAt frozen log) (inUse (sourcesOf frozen))) (addsIn c)) (sym (o .lines))
+        (subst (λ (rs : List (List ℕ)). Placed rs (addsIn (logOf (o .legal)))) (sym (own-sources frozen log)) placed)
+
     -- the corrections of a set, over the file's sources and over its records
     pub carried-records : filed frozen log (carried frozen log T n es) ≡ run procedures (records frozen) (choose procedures T (logOf (o .legal)))
     unfolding carried
     carried-records =
-        ran-records frozen log T 0 (byCorrection 1 n es) (inUse (sourcesOf frozen))
-        (subst WideLog (sym (o .lines)) (wide-log (o .legal .corrections) (o .legal .sound)))
-        (subst (λ (c : List (Correction procedures)). Placed (map (recordAt frozen log) (inUse (sourcesOf frozen))) (addsIn c)) (sym (o .lines))
-        (subst (λ (rs : List (List ℕ)). Placed rs (addsIn (logOf (o .legal)))) (sym (own-sources frozen log)) placed))
+        ran-records frozen log T 0 (byCorrection 1 n es) (inUse (sourcesOf frozen)) wide-lines placed-sources
         ∙ ap (λ (rs : List (List ℕ)). run procedures rs (choose procedures T (operations frozen log (byCorrection 1 n es)))) (own-sources frozen log)
         ∙ ap (λ (c : List (Correction procedures)). run procedures (records frozen) (choose procedures T c)) (o .lines)
+
+    -- where a set of all of them fails, what is told is so of the first that does
+    pub carried-wrong : ((i : ℕ) → T i ≡ true) → (r : Refusal) (w : Wrong) → carried frozen log T n es ≡ stopped r w
+        → FirstWrong frozen log 1 (byCorrection 1 n es) (inUse (sourcesOf frozen)) r w
+    unfolding carried
+    carried-wrong all r w e = first-wrong frozen log T all 1 (byCorrection 1 n es) (inUse (sourcesOf frozen)) r w wide-lines placed-sources e
 
     pub carried-placed : (rs : List (List ℕ)) → run procedures (records frozen) (choose procedures T (logOf (o .legal))) ≡ some rs → Placed rs 0
     carried-placed rs e =

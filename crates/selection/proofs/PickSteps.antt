@@ -30,7 +30,7 @@ use Rattle.selection.proofs.OpenedLaws.{Opening, frozen-accepted, legal
 module _ (f l : List ℕ) where
   pub outcome-some : (o : Outcome) {rs : List (List ℕ)} → filed f l o ≡ some rs → (xs : List ℕ) × (o ≡ reached xs) × (map (recordAt f l) xs ≡ rs)
   unfolding filed
-  outcome-some (stopped r) e = let z : _≡_ {A = ℕ} 0 1 = cc in absurd (omega arith)
+  outcome-some (stopped r w) e = let z : _≡_ {A = ℕ} 0 1 = cc in absurd (omega arith)
   outcome-some (reached xs) e = (xs, refl, cc)
 
   pub outcome-filed : {o : Outcome} {xs : List ℕ} → o ≡ reached xs → filed f l o ≡ some (map (recordAt f l) xs)
@@ -38,7 +38,7 @@ module _ (f l : List ℕ) where
   outcome-filed e = rw e
 
 outcome-accepted : (o : Outcome) → outcomeVerdict o ≡ Accepted → (xs : List ℕ) × (o ≡ reached xs)
-outcome-accepted (stopped r) e = absurd (never e)
+outcome-accepted (stopped r w) e = absurd (never e)
 outcome-accepted (reached xs) e = (xs, refl)
 
 -- ---- the whole log
@@ -94,7 +94,7 @@ judged-first (Refused r) p e = let z : _≡_ {A = ℕ} 0 1 = cc in absurd (omega
 
 ran-first : (o : Outcome) (next : List ℕ → Pick) {ns xs : List ℕ} → ranFirst o next ≡ picked ns xs
     → (zs : List ℕ) × (o ≡ reached zs) × (next zs ≡ picked ns xs)
-ran-first (stopped r) next e = let z : _≡_ {A = ℕ} 0 1 = cc in absurd (omega arith)
+ran-first (stopped r w) next e = let z : _≡_ {A = ℕ} 0 1 = cc in absurd (omega arith)
 ran-first (reached zs) next e = (zs, refl, e)
 
 module _ (frozen log ws : List ℕ) where

@@ -48,7 +48,7 @@ module _ (f l : List ℕ) (index : Index) (count : ℕ) where
   unfoldable pub relianceFrom : List ℕ → ℕ → List ℕ
   relianceFrom relied k = sets relied k (reliances f l index k (count - k))
 
-  reliances-length : (k n : ℕ) → length (reliances f l index k n) ≡ n
+  pub reliances-length : (k n : ℕ) → length (reliances f l index k n) ≡ n
   unfolding reliances
   reliances-length k zero = refl
   reliances-length k (suc n) = ap suc (reliances-length (k + 1) n)

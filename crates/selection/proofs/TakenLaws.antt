@@ -59,7 +59,7 @@ at-wanted (w ∷ ws) (suc k) h = or-right (eqb w (getD ws k 0)) (member (getD ws
 -- ---- what a correction relies on
 
 module _ (f l : List ℕ) (n : ℕ) (es : List Entry) (b : ByCorrection n es) where
-  abbrev index : Index
+  abbrev pub index : Index
   index = indexOf (said n es)
 
   -- what the marking is given: the correction of each line, and what the line relies on
@@ -69,29 +69,29 @@ module _ (f l : List ℕ) (n : ℕ) (es : List Entry) (b : ByCorrection n es) wh
   abbrev pub relied : List ℕ
   relied = reliances f l index 0 (index .count) ++ replicate (444 - index .count) 0
 
-  abbrev ess : List (List Entry)
+  abbrev pub ess : List (List Entry)
   ess = byCorrection 1 n es
 
-  abbrev L : List (Correction procedures)
+  abbrev pub L : List (Correction procedures)
   L = operations f l ess
 
-  count-lines : index .count ≡ length es
+  pub count-lines : index .count ≡ length es
   unfolding indexOf
   count-lines = refl
 
-  length-log : length L ≡ n
+  pub length-log : length L ≡ n
   unfolding operations
   length-log = length-map ess (map (operation f l)) ∙ b .many
 
   -- a line belongs to a correction, which touches its route; and what it relies on is the last one before that on the route
-  record Line (k : ℕ) : Type 0 where
-    group : ℕ
-    among : suc group ≤ length L
-    owner : getD of k 0 ≡ suc group
-    touches : Touches procedures (numbered L (suc group)) (routeIn f l (getD es k noLine))
-    last : getD relied k 0 ≡ lastOn procedures (numbered L) (routeIn f l (getD es k noLine)) group
+  pub record Line (k : ℕ) : Type 0 where
+    pub group : ℕ
+    pub among : suc group ≤ length L
+    pub owner : getD of k 0 ≡ suc group
+    pub touches : Touches procedures (numbered L (suc group)) (routeIn f l (getD es k noLine))
+    pub last : getD relied k 0 ≡ lastOn procedures (numbered L) (routeIn f l (getD es k noLine)) group
 
-  line : (k : ℕ) → k < length es → Line k
+  pub line : (k : ℕ) → k < length es → Line k
   unfolding reliedBy
   line k h = record {
     group = s .group;
@@ -122,6 +122,20 @@ module _ (f l : List ℕ) (n : ℕ) (es : List Entry) (b : ByCorrection n es) wh
       by-entry =
           ap (λ (x : Entry). lastBefore f l (x .correction) (routeIn f l x) 0 (entriesFrom index 0 k)) (entry-at n es k)
           ∙ ap (lastBefore f l (e .correction) (routeIn f l e) 0) (first-lines n es k (omega arith) ∙ ap (take k) (sym (b .whole)))
+
+  -- and a correction that touches a route has a line on it
+  pub line-on : (m : ℕ) (ρ : List ℕ) → Touches procedures (numbered L (suc m)) ρ
+      → (k : ℕ) × (k < length es) × (getD es k noLine .correction ≡ suc m) × (routeIn f l (getD es k noLine) ≡ ρ)
+  line-on m ρ t =
+      let u = touched-by f l (getD ess m []) noLine ρ (subst (λ c. Touches procedures c ρ) (numbered-group f l ess m) t) in
+      let w = line-of ess noLine m (u .0) (u .1) in
+      let k : ℕ = w .0 in
+      let is : getD es k noLine ≡ getD (getD ess m []) (u .0) noLine = ap (λ (y : List Entry). getD y k noLine) (sym (b .whole)) ∙ w .2 in (
+        k,
+        omega (arith, w .1, ap length (b .whole)),
+        ap (λ (y : Entry). y .correction) is ∙ all-at (1 + m) (getD ess m []) (grouped-at 1 ess (b .grouped) m) noLine (u .0) (u .1) ∙ omega arith,
+        ap (routeIn f l) is ∙ u .2,
+      )
 
   -- a line that names something stands in the log
   within-log : (c k : ℕ) → 0 < namedBy of relied c k → k < length es
@@ -156,17 +170,13 @@ module _ (f l : List ℕ) (n : ℕ) (es : List Entry) (b : ByCorrection n es) wh
     is-closed : Closed procedures L T
     unfolding _∈_
     is-closed m ρ h x touch =
-        let u = touched-by f l (getD ess m []) noLine ρ (subst (λ c. Touches procedures c ρ) (numbered-group f l ess m) touch) in
-        let w = line-of ess noLine m (u .0) (u .1) in
-        let k : ℕ = w .0 in
-        let inside : k < length es = omega (arith, w .1, ap length (b .whole)) in
+        let (k, inside, whose, route) = line-on m ρ touch in
         let ln = line k inside in
-        let is : getD es k noLine ≡ getD (getD ess m []) (u .0) noLine = ap (λ (y : List Entry). getD y k noLine) (sym (b .whole)) ∙ w .2 in
-        let mine : getD of k 0 ≡ 1 + m = correction-at n es k ∙ ap (λ (y : Entry). y .correction) is ∙ all-at (1 + m) (getD ess m []) (grouped-at 1 ess (b .grouped) m) noLine (u .0) (u .1) in
+        let mine : getD of k 0 ≡ suc m = correction-at n es k ∙ whose in
         let here : ln .group ≡ m = omega (arith, ln .owner, mine) in
         let named : getD relied k 0 ≡ lastOn procedures (numbered L) ρ m =
         ln .last ∙ ap (λ (j : ℕ). lastOn procedures (numbered L) (routeIn f l (getD es k noLine)) j) here
-        ∙ ap (λ (r : List ℕ). lastOn procedures (numbered L) r m) (ap (routeIn f l) is ∙ u .2) in
+        ∙ ap (λ (r : List ℕ). lastOn procedures (numbered L) r m) route in
         let small = last-within procedures (numbered L) ρ m in
         subst (λ (p : ℕ). p ∈ T) named
         (by k m (getD relied k 0) refl (omega (arith, named, small)) (omega (arith, mine)) (set-in m x))

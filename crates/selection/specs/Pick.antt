@@ -86,11 +86,11 @@ judgedFirst Accepted p = p
 judgedFirst (Refused r) p = refusedBy r
 
 abbrev pub ranFirst : Outcome → (List ℕ → Pick) → Pick
-ranFirst (stopped r) next = refusedBy r
+ranFirst (stopped r w) next = refusedBy r
 ranFirst (reached xs) next = next xs
 
 abbrev pub outcomeVerdict : Outcome → Verdict
-outcomeVerdict (stopped r) = Refused r
+outcomeVerdict (stopped r w) = Refused r
 outcomeVerdict (reached xs) = Accepted
 
 abbrev pub unlessRefused : Verdict → List ℕ → List ℕ

@@ -1,5 +1,5 @@
-// What corrections make of the frozen records: the whole log for its verdict, or the marked ones for the new file. Assumes of its callers,
-// all in this crate, that the index is that of a log which was read.
+// What the corrections taken make of the frozen records. Assumes of its callers, all in this crate, that the index is that of a log which was
+// read.
 ghost use mathlib.Core.Path.{_≡_};
 ghost use mathlib.Core.Bool.{cond};
 ghost use mathlib.Core.List.{[], _∷_};
@@ -8,23 +8,17 @@ ghost use Rattle.applying.specs.Apply.{linesOf};
 ghost use Rattle.applying.specs.Run.{marked};
 ghost use Rattle.selection.specs.Pick.{
   Reads,
-  everything,
   membersFrom,
   withMembers,
   membersAs,
-  outcomeVerdict,
   refusedBy,
-  carried,
   pickBy,
   pickFrom,
   pickedAs,
 };
 ghost use Rattle.corrections.specs.Reading.{said};
 use crate::Picked;
-use crate::opening::within;
-use crate::relied::MARKS;
-use crate::relied::reliances;
-use crate::relied::taken;
+use crate::choosing::choose;
 use applying::is_marked;
 use applying::run;
 use corrections::Index;
@@ -72,7 +66,7 @@ fn with_number(found: Members, n: usize, marked: bool) -> Members
 }
 
 // The marked numbers from 1 up to a total.
-fn members_of(marks: &[u8], total: usize) -> Members
+pub(crate) fn members_of(marks: &[u8], total: usize) -> Members
     requires { ⌜ total ≤ 200 ⌝ }
     ensures { λ r. ⌜ r ≡ membersAs (membersFrom (marked (now (marks .entry))) 1 total) ⌝ }
 {
@@ -88,17 +82,6 @@ fn members_of(marks: &[u8], total: usize) -> Members
         n += 1;
     }
     found
-}
-
-// The verdict over the whole log, correction by correction 10, 11.
-pub(crate) fn whole<'a>(frozen: &'a [u8], log: &'a [u8], index: Index) -> Verdict
-    requires { ⌜ Reads (now log) index ⌝ }
-    ensures { λ r. ⌜ r ≡ outcomeVerdict (carried (now (frozen .entry)) (now (log .entry)) everything (index .corrections) (linesOf index)) ⌝ }
-{
-    let marks = [1u8; MARKS];
-    let state = sources_of(frozen);
-    let all = run(frozen, log, index, &marks, state);
-    all.verdict
 }
 
 // What the marked corrections make of the frozen records.
@@ -132,23 +115,15 @@ pub(crate) fn pick_from<'a>(frozen: &'a [u8], log: &'a [u8], index: Index, wante
     requires { ⌜ Reads (now log) index ⌝ }
     ensures { λ r. ⌜ r ≡ pickedAs (pickFrom (now (frozen .entry)) (now (log .entry)) (now (wanted .entry)) (said (index .corrections) (linesOf index))) ⌝ }
 {
-    let total = index.corrections;
-    let judged = within(total, wanted);
-    match judged {
+    let chosen = choose(frozen, log, index, wanted);
+    let failure = chosen.failure;
+    let verdict = failure.verdict;
+    match verdict {
         Verdict::Accepted => {}
         Verdict::Refused(r) => {
             return refused_pick(r);
         }
     }
-    let all = whole(frozen, log, index);
-    match all {
-        Verdict::Accepted => {}
-        Verdict::Refused(r) => {
-            return refused_pick(r);
-        }
-    }
-    let relied = reliances(frozen, log, index);
-    let of = index.correction;
-    let marks = taken(&of, &relied, wanted);
+    let marks = chosen.marks;
     carry(frozen, log, index, &marks)
 }

@@ -5,16 +5,24 @@
 // at most L times R comparisons of places, of routes, and of records with those before them, 25 to 53 bytes each, and judges L and R records
 // by themselves; what the lines rely on is L times L comparisons more, once (docs/PERFORMANCE.md).
 mod carry;
+mod choosing;
+mod explaining;
 mod file;
 mod opening;
 mod relied;
 
 ghost use mathlib.Core.Path.{_≡_};
 ghost use Rattle.selection.specs.Pick.{logVerdict, pickOf, FileMade, lineIn, lineOfPick, pickedAs};
+ghost use Rattle.selection.specs.Failing.{failureOf, settledOf};
+ghost use Rattle.selection.specs.Reasons.{reasonsOf, reasonsAs};
+use applying::Fault;
 use carry::pick_from;
 use carry::refused_pick;
-use carry::whole;
+use choosing::failure_by;
+use choosing::whole;
 use corrections::MOST_CORRECTIONS;
+use explaining::no_reasons;
+use explaining::reasons_from;
 use file::write_records;
 use opening::opening;
 use refusals::MOST_RECORDS;
@@ -33,17 +41,46 @@ pub struct Picked {
     pub records: Sources,
 }
 
-// Checks a log against its frozen file: 13 for the log's length, 2 and the rest of the file, the log's lines, then correction by correction
-// 10 and 11.
-pub fn check_log<'a>(frozen: &'a [u8], log: &'a [u8]) -> Verdict
-    ensures { λ r. ⌜ r ≡ logVerdict (now (frozen .entry)) (now (log .entry)) ⌝ }
+// Where a log fails: the verdict, and what is wrong where it is 10 or 11. For 10 `line` is the line of the log that can't be applied, counted
+// from 1, and `fault.at` the offset of its record; for 11 `fault` has the route that is refused, where its records lie, and its own refusal.
+// Nothing but zeros otherwise.
+pub struct Failure {
+    pub verdict: Verdict,
+    pub line: usize,
+    pub fault: Fault,
+}
+
+// Why corrections are taken. `count` is how many are, `taken` their numbers in rising order. Of each that is not wanted `relying` is the smallest
+// correction taken that relies on it directly, and `source` where the record lies of the first line of that one whose route it was the last
+// earlier correction to touch; both are 0 of one that is wanted. Zeros past the count, and nothing but zeros beside a refusal.
+pub struct Explained {
+    pub failure: Failure,
+    pub count: usize,
+    pub taken: [u32; MOST_CORRECTIONS],
+    pub relying: [u32; MOST_CORRECTIONS],
+    pub source: [u32; MOST_CORRECTIONS],
+}
+
+// Checks a log against its frozen file, and says where it fails: 13 for the log's length, 2 and the rest of the file, the log's lines, then
+// correction by correction 10 and 11.
+pub fn failing<'a>(frozen: &'a [u8], log: &'a [u8]) -> Failure
+    ensures { λ r. ⌜ r ≡ failureOf (now (frozen .entry)) (now (log .entry)) ⌝ }
 {
     let index = opening(frozen, log);
     let opened = index.verdict;
     match opened {
         Verdict::Accepted => whole(frozen, log, index),
-        Verdict::Refused(r) => Verdict::Refused(r),
+        Verdict::Refused(r) => failure_by(log, r),
     }
+}
+
+// Checks a log against its frozen file: 13 for the log's length, 2 and the rest of the file, the log's lines, then correction by correction
+// 10 and 11.
+pub fn check_log<'a>(frozen: &'a [u8], log: &'a [u8]) -> Verdict
+    ensures { λ r. ⌜ r ≡ logVerdict (now (frozen .entry)) (now (log .entry)) ⌝ }
+{
+    let whole = failing(frozen, log);
+    whole.verdict
 }
 
 // Picks the wanted corrections and those that they rely on, and no others: the log is checked as above, with 12 before 10 and 11.
@@ -55,6 +92,19 @@ pub fn pick<'a>(frozen: &'a [u8], log: &'a [u8], wanted: &[u32]) -> Picked
     match opened {
         Verdict::Accepted => pick_from(frozen, log, index, wanted),
         Verdict::Refused(r) => refused_pick(r),
+    }
+}
+
+// Says why each correction is taken that `pick` takes; or its refusal, with what is wrong.
+pub fn reasons<'a>(frozen: &'a [u8], log: &'a [u8], wanted: &[u32]) -> Explained
+    ensures { λ r. ⌜ r ≡ reasonsAs (now (log .entry)) (settledOf (now (frozen .entry)) (now (log .entry)) (now (wanted .entry)))
+        (reasonsOf (now (frozen .entry)) (now (log .entry)) (now (wanted .entry))) ⌝ }
+{
+    let index = opening(frozen, log);
+    let opened = index.verdict;
+    match opened {
+        Verdict::Accepted => reasons_from(frozen, log, index, wanted),
+        Verdict::Refused(r) => no_reasons(failure_by(log, r)),
     }
 }
 
@@ -73,8 +123,9 @@ pub fn new_file<'a>(frozen: &'a [u8], log: &'a [u8], wanted: &[u32], out: &mut [
     picked
 }
 
-// The record at the nth of these sources, counted from 1. Empty for 0 and past the count, and where the source lies in neither slice.
-fn line_in<'a>(frozen: &'a [u8], log: &'a [u8], records: Sources, n: usize) -> &'a [u8]
+// The record at the nth of these sources, counted from 1, as a part of the frozen file or of the log. Empty for 0 and past the count, and
+// where the source lies in neither slice.
+pub fn line_in<'a>(frozen: &'a [u8], log: &'a [u8], records: Sources, n: usize) -> &'a [u8]
     ensures { λ r. ⌜ now r ≡ lineIn (now (frozen .entry)) (now (log .entry)) records n ⌝ }
 {
     let count = records.count;

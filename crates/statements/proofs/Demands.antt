@@ -43,9 +43,14 @@ use Rattle.history.specs.Apply.{run}
 use Rattle.applying.specs.Run.{byCorrection}
 use Rattle.applying.specs.Procedures.{procedures, logOf}
 use Rattle.applying.specs.Origin.{linesTaken, HandedBack}
-use Rattle.selection.specs.Pick.{wantedStage, everything, refusedBy, picked, outcomeVerdict, carried, logVerdict, pickOf, newBytes, filePick}
-use Rattle.selection.specs.Demand.{Demanded}
+use Rattle.applying.specs.Correct.{Wrong, stopped}
+use Rattle.selection.specs.Failing.{outcomeOf, failureOf, settledOf}
+use Rattle.selection.specs.Reasons.{reasonsOf}
+use Rattle.selection.specs.Pick.{opened, wantedStage, everything, refusedBy, picked, outcomeVerdict, carried, logVerdict, pickOf, newBytes, filePick}
+use Rattle.selection.specs.Demand.{Demanded, Told, Explained}
+use Rattle.selection.proofs.Because.{picked-explained, refused-unexplained}
 use Rattle.selection.proofs.Demand.{picked-demand, pick-iff, log-runs}
+use Rattle.selection.proofs.FailingLaws.{same-verdict, tells}
 use Rattle.selection.proofs.Origins.{sources-handed}
 use Rattle.selection.proofs.Answers as answers
 use Rattle.answers.specs.Answers.{answered, filled}
@@ -203,3 +208,22 @@ pub sources-of-a-pick : (frozen log wanted taken sources : List ℕ) → pickOf 
     → (n : ℕ) × (lines : List Entry) × (readLog log (length (records frozen)) ≡ said n lines)
     × Every (HandedBack frozen log (linesTaken taken lines)) sources
 sources-of-a-pick = sources-handed
+
+-- Why each correction is taken. Where the pick stands, there is a reason for each of its numbers: it is wanted, or the smallest correction
+-- taken relies on it directly that does, by the first line that is on such a route; and following the reasons leads by rising numbers to a
+-- wanted one. Where the pick is refused, it is refused by the same, and no reason is given.
+pub reasons-are-so : (frozen log wanted taken sources : List ℕ) → pickOf frozen log wanted ≡ picked taken sources
+    → (outcomeVerdict (settledOf frozen log wanted) ≡ Accepted) × Explained frozen log wanted taken (reasonsOf frozen log wanted)
+reasons-are-so = picked-explained
+
+pub reasons-refused : (frozen log wanted : List ℕ) (r : Refusal) → pickOf frozen log wanted ≡ refusedBy r
+    → (outcomeVerdict (settledOf frozen log wanted) ≡ Refused r) × (reasonsOf frozen log wanted ≡ [])
+reasons-refused = refused-unexplained
+
+-- Where a log fails. The verdict is that of the log's check; and what is told beside it is so of the first correction that fails: the line that
+-- can't be applied, or the route that is refused, by the refusal of its records alone.
+pub failing-verdict : (frozen log : List ℕ) → failureOf frozen log .verdict ≡ logVerdict frozen log
+failing-verdict = same-verdict
+
+pub failing-told : (frozen log : List ℕ) (r : Refusal) (w : Wrong) → outcomeOf frozen log (opened frozen log) ≡ stopped r w → Told frozen log r w
+failing-told = tells

@@ -40,7 +40,7 @@ use Rattle.routes.specs.Sources.{records, inUse, sourcesOf}
 use Rattle.routes.proofs.InTurnLaws as turns
 use Rattle.routes.proofs.FirstLaws.{first-iff, file-refuses}
 use Rattle.corrections.specs.Reading.{Entry, Reading, refused, said, readLog}
-use Rattle.applying.specs.Apply.{linesApplied, touchedJudged}
+use Rattle.applying.specs.Apply.{linesApplied, failsAt, touchedJudged, refusedRoute}
 use Rattle.applying.specs.Correct.{Outcome, stopped, reached, corrected, afterLines, afterJudging}
 use Rattle.applying.specs.Run.{byCorrection, ran, onward}
 use Rattle.selection.specs.Pick.{lengthStage, ifAccepted, opened, wantedStage, everything, Pick, refusedBy, picked, judgedFirst, ranFirst, outcomeVerdict, carried, takenOf, membersFrom, logJudged, logVerdict, pickFrom, pickOf, filePick}
@@ -223,7 +223,7 @@ module _ (frozen log : List ℕ) where
         → judgedFirst v (ranFirst o next) ≡ refusedBy r
     unfolding inTurn
     both-turn (Refused s) o next r e = ap refusedBy (same-refusal e)
-    both-turn Accepted (stopped s) next r e = ap refusedBy (same-refusal e)
+    both-turn Accepted (stopped s w) next r e = ap refusedBy (same-refusal e)
     both-turn Accepted (reached xs) next r e = absurd (never (sym e))
 
     -- the first that refuses is what the pick is refused by
@@ -251,7 +251,7 @@ module _ (frozen log : List ℕ) where
     both-pass : (v : Verdict) (o : Outcome) → inTurn (v ∷ outcomeVerdict o ∷ []) ≡ Accepted → (v ≡ Accepted) × (xs : List ℕ) × (o ≡ reached xs)
     unfolding inTurn
     both-pass (Refused s) o e = absurd (never e)
-    both-pass Accepted (stopped s) e = absurd (never e)
+    both-pass Accepted (stopped s w) e = absurd (never e)
     both-pass Accepted (reached xs) e = (refl, xs, refl)
 
     stages-pass : (u v : Verdict) (read : Reading) → inTurn (stages u v read) ≡ Accepted → Passes u v read
@@ -337,13 +337,13 @@ module _ (frozen log : List ℕ) where
   one-to n es ess xs r rest = applied (linesApplied frozen log es xs) refl
     where
       routes : (ys : List ℕ) → linesApplied frozen log es xs ≡ some ys → (v : Verdict) → touchedJudged frozen log es 0 ys ≡ v
-          → outcomeVerdict (onward (afterJudging n ys v) (ran frozen log everything (n + 1) ess)) ≡ Refused r
+          → outcomeVerdict (onward (afterJudging n ys (refusedRoute frozen log es 0 ys) v) (ran frozen log everything (n + 1) ess)) ≡ Refused r
           → FirstCorrection frozen log n (es ∷ ess) xs r
       routes ys q Accepted t h = behind q t (rest ys h)
       routes ys q (Refused s) t h = subst (FirstCorrection frozen log n (es ∷ ess) xs) (same-refusal h) (route q t)
 
       applied : (o : Option (List ℕ)) → linesApplied frozen log es xs ≡ o
-          → outcomeVerdict (onward (afterLines frozen log n es o) (ran frozen log everything (n + 1) ess)) ≡ Refused r
+          → outcomeVerdict (onward (afterLines frozen log n es (failsAt frozen log es xs) o) (ran frozen log everything (n + 1) ess)) ≡ Refused r
           → FirstCorrection frozen log n (es ∷ ess) xs r
       applied none q h = subst (FirstCorrection frozen log n (es ∷ ess) xs) (same-refusal h) (unapplied q)
       applied (some ys) q h = routes ys q (touchedJudged frozen log es 0 ys) refl h

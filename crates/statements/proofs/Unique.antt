@@ -255,7 +255,19 @@ unique-is-marked κs a x y v w p q = (p ∙ sym q, refl)
 pub unique-run : Determined applying.run.Kinds.ps applying.run.Kinds.r applying.run.Reads.Post
 unique-run κs a x y v w p q = (p ∙ sym q, refl)
 
+pub unique-no-fault : Determined applying.no_fault.Kinds.ps applying.no_fault.Kinds.r applying.no_fault.Reads.Post
+unique-no-fault κs a x y v w p q = (p ∙ sym q, refl)
+
 -- ---- selection
+
+pub unique-failing : Determined selection.failing.Kinds.ps selection.failing.Kinds.r selection.failing.Reads.Post
+unique-failing κs a x y v w p q = (p ∙ sym q, refl)
+
+pub unique-reasons : Determined selection.reasons.Kinds.ps selection.reasons.Kinds.r selection.reasons.Reads.Post
+unique-reasons κs a x y v w p q = (p ∙ sym q, refl)
+
+pub unique-line-in : DeterminedAs selection.line_in.Kinds.ps selection.line_in.Kinds.r (λ κs. now) selection.line_in.Reads.Post
+unique-line-in κs a x y v w p q = (p ∙ sym q, refl)
 
 pub unique-check-log : Determined selection.check_log.Kinds.ps selection.check_log.Kinds.r selection.check_log.Reads.Post
 unique-check-log κs a x y v w p q = (p ∙ sym q, refl)
@@ -282,6 +294,9 @@ unique-newfile-answer κs a x y v w p q = (p .0 ∙ sym (q .0), ap (λ (b : List
 
 pub unique-check-answer : Determined answers.check_answer.Kinds.ps answers.check_answer.Kinds.r answers.check_answer.Reads.Post
 unique-check-answer κs a x y v w p q = (p .0 ∙ sym (q .0), ap (λ (b : List ℕ). (tt, (tt, (b, tt)))) (p .1 ∙ sym (q .1)))
+
+pub unique-why-answer : Determined answers.why_answer.Kinds.ps answers.why_answer.Kinds.r answers.why_answer.Reads.Post
+unique-why-answer κs a x y v w p q = (p .0 ∙ sym (q .0), ap (λ (b : List ℕ). (tt, (tt, (tt, (b, tt))))) (p .1 ∙ sym (q .1)))
 
 -- ---- statements
 

@@ -1,9 +1,9 @@
 -- The cases that paper 01 stars, as one table: a record read alone and what is said of it, a file and its verdict, and a frozen file, a
--- log and wanted numbers with the answer of the pick. What a row means is said by the definitions that the contracts of `parts::read`,
--- `routes::check` and `selection::pick` cite: `readingOf`, `fileVerdict` and `pickOf`. That every row is met is `cases`, in proofs/Starred.
+-- log and wanted numbers with the answer of the pick; and beside what the paper stars, why corrections are taken and where a log fails. What a row means is said by the definitions that the contracts of `parts::read`,
+-- `routes::check`, `selection::pick`, `reasons` and `failing` cite: `readingOf`, `fileVerdict`, `pickOf`, `reasonsOf` and `failureOf`. That every row is met is `cases`, in proofs/Starred.
 -- Assumes nothing.
 use mathlib.Core.Path.{_≡_}
-use mathlib.Core.List.{List, [], _∷_, _++_}
+use mathlib.Core.List.{List, [], _∷_, _++_, map}
 use mathlib.Core.Option.{Option, none, some, bind, Option·map}
 use Prim.Native.Nat.{ℕ}
 use Prim.Native.String.{String}
@@ -25,7 +25,13 @@ use Rattle.fields.specs.declared.quantities.Distance.{Distance}
 use Rattle.fields.specs.declared.quantities.Distance.the-variants.{Minutes}
 use Rattle.routes.specs.Files.{fileVerdict}
 use Rattle.routes.specs.Legal.{lines}
-use Rattle.selection.specs.Pick.{Pick, refusedBy, picked, pickOf}
+use Rattle.routes.specs.Places.{keyOf}
+use Rattle.corrections.specs.Reading.{Entry}
+use Rattle.applying.specs.Apply.{recordOfLine}
+use Rattle.selection.specs.Failing.{failureOf}
+use Rattle.selection.specs.Pick.{Pick, refusedBy, picked, lineIn, pickOf}
+use Rattle.selection.specs.Reasons.{Reason, reasonsOf}
+use Rattle.selection.specs.declared.Failure.{Failure}
 
 -- ---- what a row is
 
@@ -42,10 +48,22 @@ pub data Answer : Type 0 where
   takes : (numbers : List ℕ) (records : ℕ) → Answer
   refuses : (number place column : ℕ) → Answer
 
+-- why a correction is taken: it is wanted; or for another one, by columns 1-25 of a route
+pub data Why : Type 0 where
+  isWanted : (correction : ℕ) → Why
+  takenFor : (correction relying : ℕ) (route : List ℕ) → Why
+
+-- where a log fails: at a line; or in a route, by the number, the place and the column of its own refusal
+pub data Where : Type 0 where
+  atLine : ℕ → Where
+  inRoute : (route : List ℕ) (number place column : ℕ) → Where
+
 pub data Row : Type 0 where
   read : (columns : List ℕ) → Said → Row
   checked : (file : List ℕ) → Verdict → Row
   pick : (frozen log wanted : List ℕ) → Answer → Row
+  why : (frozen log wanted : List ℕ) → List Why → Row
+  fails : (frozen log : List ℕ) → Where → Row
 
 -- ---- what a row means
 
@@ -79,10 +97,24 @@ abbrev pub answerOf : Pick → Answer
 answerOf (refusedBy r) = refuses (r .number) (r .place) (r .column)
 answerOf (picked taken sources) = takes taken (length sources)
 
+abbrev pub lineRead : (frozen log : List ℕ) (correction : ℕ) → Option Entry → Why
+lineRead frozen log p none = isWanted p
+lineRead frozen log p (some e) = takenFor p (e .correction) (keyOf (recordOfLine frozen log e))
+
+abbrev pub reasonRead : (frozen log : List ℕ) → Reason → Why
+reasonRead frozen log r = lineRead frozen log (r .correction) (r .line)
+
+abbrev pub FailsAt : (frozen log : List ℕ) → Failure → Where → Type 0
+FailsAt frozen log f (atLine n) = f .line ≡ n
+FailsAt frozen log f (inRoute route number place column) =
+    (f .fault .inner ≡ refusal number place column) × (keyOf (lineIn frozen log (f .fault .route) 1) ≡ route)
+
 abbrev pub Meets : Row → Type 0
 Meets (read rec s) = SaidOf rec s
 Meets (checked file v) = fileVerdict file ≡ v
 Meets (pick frozen log wanted a) = answerOf (pickOf frozen log wanted) ≡ a
+Meets (why frozen log wanted reasons) = map (reasonRead frozen log) (reasonsOf frozen log wanted) ≡ reasons
+Meets (fails frozen log w) = FailsAt frozen log (failureOf frozen log) w
 
 -- ---- the records, the frozen file and the log
 
@@ -121,8 +153,12 @@ log =
 unfoldable pub unended : List ℕ
 unended = line "C" (codes "1") (line "D" (only "P" "0") (line "A" (only "P" "1" at 48 is "VI") []))
 
+-- one whose second correction puts a record in where one stands
+unfoldable pub doubled : List ℕ
+doubled = line "C" (codes "1") (replaced "P" "0" "1" (line "C" (codes "2") (line "A" (only "Q" "2") [])))
+
 -- ---- the table: the paper's cases in its order, 3 at the bad byte, as request 2026-04 has it; with the cycles, which the paper does not star, in a
--- leg and in a continuation; and last legs, in a file and after a correction
+-- leg and in a continuation; last legs, in a file and after a correction; and why corrections are taken, and where logs fail
 
 unfoldable pub starred : List Row
 starred =
@@ -154,4 +190,9 @@ starred =
     pick frozen log (6 ∷ []) (refuses 12 1 0) ∷
     checked (lines (leg "010" "IF" ∷ leg "020" "VI" ∷ [])) (Refused (refusal 8 2 49)) ∷
     pick frozen unended [] (refuses 11 1 8) ∷
+    why frozen log (5 ∷ []) (takenFor 1 3 (keyOf (only "P" "0")) ∷ takenFor 3 5 (keyOf (only "R" "0")) ∷ isWanted 5 ∷ []) ∷
+    why frozen log (4 ∷ 2 ∷ []) (isWanted 2 ∷ isWanted 4 ∷ []) ∷
+    why frozen unended [] [] ∷
+    fails frozen unended (inRoute (keyOf (only "P" "0")) 8 1 49) ∷
+    fails frozen doubled (atLine 5) ∷
     []

@@ -74,7 +74,7 @@ returns-3 c =
     let clean = log .before .before .before in
     let text = check-refused _ _ (log .check-log .ensures) (told .verdict .given .1) in
     let room = clean .before .before .if1 .left in
-    left-wrote _ _ room (clean .clear .ensures) (rw text at (put .put-no .ensures)) (check-fits _ _) (c .written2 .ensures)
+    left-wrote _ _ room (clean .clear .ensures) (rw text at (put .put-no .ensures .0)) (check-fits _ _) (c .written2 .ensures)
 
 pub check-answer-spec : {M : Type 1} → statement M
 check-answer-spec =

@@ -76,7 +76,7 @@ returns-3 c =
     let wanted = wanted-numbers _ (numbers .numbers .ensures) in
     let text = refused-text _ _ _ _ _ room wanted (made .new-file .ensures) (told .verdict .given .1) in
     let clear = refused-clear _ _ _ _ _ room wanted (made .new-file .ensures) (told .verdict .given .1) in
-    left-wrote _ _ room clear (rw text at (put .put-no .ensures)) (newfile-fits _ _ _) (c .written2 .ensures)
+    left-wrote _ _ room clear (rw text at (put .put-no .ensures .0)) (newfile-fits _ _ _) (c .written2 .ensures)
 
 pub newfile-answer-spec : {M : Type 1} → statement M
 newfile-answer-spec =

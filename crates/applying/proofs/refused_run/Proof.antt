@@ -1,12 +1,11 @@
 -- Put together as the definition says. Assumes nothing.
 use mathlib.Core.Path.{refl}
 use Rattle.routes.specs.Sources.{sourcesFor}
-use Rattle.applying.specs.Bounds.{ranAs}
 use Rattle.applying.proofs.refused_run.Statement.{statement}
 use Rattle.applying.proofs.refused_run.Tie as tie
 
 returns : tie.Need-returns
-unfolding ranAs sourcesFor
+unfolding sourcesFor
 returns c = refl
 
 pub refused-run-spec : {M : Type 1} → statement M

@@ -2,6 +2,7 @@
 use mathlib.Core.Path.{sym, _∙_}
 use Rattle.applying.proofs.BoundLaws.{passed, run-unbounded, run-refused, run-count, run-stands}
 use borrow.Author.Needs.{needs}
+use native.Mathlib.Omega.{arith}
 use Rattle.applying.proofs.run.Statement.{statement}
 use Rattle.applying.proofs.run.Tie as tie
 
@@ -14,13 +15,16 @@ enum-told c = search needs
 enum-known-bound : tie.Need-enum-known-bound
 enum-known-bound c = search needs
 
+no-fault-requires : tie.Need-no-fault-requires
+no-fault-requires c κs = search needs
+
 refused-run-requires : tie.Need-refused-run-requires
 refused-run-requires c κs = search needs
 
 returns : tie.Need-returns
 returns c =
-    let first = c .before .before .before .before in
-    run-unbounded _ _ _ _ _ (first .bounds .ensures) (c .before .before .bound .given .1) (c .refused-run .ensures)
+    let told = c .before .before in
+    run-unbounded _ _ _ _ _ (told .before .before .before .bounds .ensures) (told .before .bound .given .1) (c .refused-run .ensures) (c .before .no-fault .ensures)
 
 known-of-requires : tie.Need-known-of-requires
 known-of-requires c κs =
@@ -47,23 +51,27 @@ refused-run-requires-2 c κs = search needs
 
 returns-2 : tie.Need-returns-2
 returns-2 c =
-    let done = c .before .before .before .before in
+    let verdict = c .before .before .before in
+    let done = verdict .before .before in
     let told = done .before .before .before in
-    run-refused _ _ _ _ _ (told .before .before .bounds .ensures) (told .enum-told .given .1) _ (done .run-marked .ensures) (c .before .before .verdict .given .1) (c .refused-run2 .ensures)
+    run-refused _ _ _ _ _ (told .before .before .bounds .ensures) (told .enum-told .given .1) _ (done .run-marked .ensures) (verdict .verdict .given .1) (c .refused-run2 .ensures)
 
-cleared-requires : tie.Need-cleared-requires
-cleared-requires c κs =
+range-of-requires : tie.Need-range-of-requires
+range-of-requires c κs =
     let told2 = c .before in
     let done = told2 .before .before in
     let told = done .before .before .before in
-    run-count _ _ _ _ _ (told .before .before .bounds .ensures) (told .enum-told .given .1) _ (done .run-marked .ensures) (told2 .enum-told2 .given .1)
+    (omega arith, omega arith, run-count _ _ _ _ _ (told .before .before .bounds .ensures) (told .enum-told .given .1) _ (done .run-marked .ensures) (told2 .enum-told2 .given .1))
+
+no-fault-requires-2 : tie.Need-no-fault-requires-2
+no-fault-requires-2 c κs = search needs
 
 returns-3 : tie.Need-returns-3
 returns-3 c =
-    let told2 = c .before .before in
+    let told2 = c .before .before .before in
     let done = told2 .before .before in
     let told = done .before .before .before in
-    run-stands _ _ _ _ _ (told .before .before .bounds .ensures) (told .enum-told .given .1) _ (done .run-marked .ensures) (told2 .enum-told2 .given .1) (c .cleared .ensures)
+    run-stands _ _ _ _ _ (told .before .before .bounds .ensures) (told .enum-told .given .1) _ (done .run-marked .ensures) (told2 .enum-told2 .given .1) (c .before .range-of .ensures) (c .no-fault2 .ensures)
 
 pub run-spec : {M : Type 1} → statement M
 run-spec =
@@ -72,6 +80,7 @@ run-spec =
     bounds-requires
     enum-told
     enum-known-bound
+    no-fault-requires
     refused-run-requires
     returns
     known-of-requires
@@ -81,5 +90,6 @@ run-spec =
     enum-known-verdict
     refused-run-requires-2
     returns-2
-    cleared-requires
+    range-of-requires
+    no-fault-requires-2
     returns-3)

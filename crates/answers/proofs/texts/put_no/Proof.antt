@@ -1,5 +1,7 @@
 -- A word, three numbers and a line feed. Assumes nothing.
 use Rattle.answers.proofs.LineLaws.{no-wrote}
+use Rattle.answers.proofs.Lengths.{no-length}
+use native.Mathlib.Omega.{arith}
 use borrow.Author.Needs.{needs}
 use Rattle.answers.proofs.texts.put_no.Statement.{statement}
 use Rattle.answers.proofs.texts.put_no.Tie as tie
@@ -38,7 +40,8 @@ returns c =
     let place = column .before .before .before .before in
     let number = place .before .before .before .before in
     let word = number .before .before .before .before .before in
-    no-wrote _ (word .put-word .ensures) (number .put-tabbed .ensures .0) (place .put-tabbed2 .ensures .0) (column .put-tabbed3 .ensures .0) (ended .put-word2 .ensures)
+    let w = no-wrote _ (word .put-word .ensures) (number .put-tabbed .ensures .0) (place .put-tabbed2 .ensures .0) (column .put-tabbed3 .ensures .0) (ended .put-word2 .ensures) in
+    (w, omega (arith, w .stops, no-length (word .before .before .before .before .args .refusal)))
 
 pub put-no-spec : {M : Type 1} → statement M
 put-no-spec =

@@ -38,7 +38,7 @@ same-length-2 c = search needs
 returns-2 : tie.Need-returns-2
 returns-2 c =
     let line = c .before .before in
-    refused-wrote _ (line .before .before .before .verdict .given .1) (line .put-no .ensures)
+    refused-wrote _ (line .before .before .before .verdict .given .1) (line .put-no .ensures .0)
 
 pub put-picked-spec : {M : Type 1} → statement M
 put-picked-spec =

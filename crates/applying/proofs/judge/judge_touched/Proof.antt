@@ -1,11 +1,12 @@
 -- The invariant: the routes that are left give the answer. Assumes nothing.
-use Rattle.applying.specs.Apply.{entriesFrom, touchedJudged}
+use Rattle.applying.specs.Apply.{entriesFrom}
 use Rattle.routes.specs.Sources.{inUse}
 use lib.ListN.{drop}
-use Prim.Native.Nat.{_-_, _≤_}
-use mathlib.Core.List.{[]}
-use mathlib.Core.Path.{_≡_, refl, sym, _∙_}
-use Rattle.applying.proofs.JudgeLaws.{end-within, route-refused, route-stands, route-untouched, routes-end}
+use Prim.Native.Nat.{ℕ, _-_, _≤_}
+use mathlib.Core.List.{List, []}
+use mathlib.Core.Path.{_≡_, refl, sym, ap, _∙_}
+use Rattle.refusals.specs.declared.Verdict.{Verdict}
+use Rattle.applying.proofs.JudgeLaws.{judgedFrom, end-within, route-refused, route-stands, route-untouched, routes-end}
 use Rattle.routes.proofs.KnownLaws.{walked-known}
 use borrow.Author.Needs.{needs}
 use native.Mathlib.Omega.{arith}
@@ -13,7 +14,7 @@ use Rattle.applying.proofs.judge.judge_touched.Statement.{statement}
 use Rattle.applying.proofs.judge.judge_touched.Tie as tie
 
 abbrev Inv-loop : tie.InvT-loop
-Inv-loop frozen log known index from to state count i₀ i = (i ≤ state .count) × (touchedJudged frozen log (entriesFrom index from (to - from)) 0 (inUse state) ≡ touchedJudged frozen log (entriesFrom index from (to - from)) 0 (drop i (inUse state)))
+Inv-loop frozen log known index from to state count i₀ i = (i ≤ state .count) × (judgedFrom frozen log (entriesFrom index from (to - from)) 0 (inUse state) ≡ judgedFrom frozen log (entriesFrom index from (to - from)) 0 (drop i (inUse state)))
 
 abbrev μ-loop : tie.MeasureT-loop
 μ-loop frozen log known index from to state count i₀ i = count - i
@@ -46,7 +47,9 @@ returns : tie.Need-returns Inv-loop μ-loop
 returns c =
     let turn = c .before .before .before .before .before .before .before .before in
     let start = turn .before .before .before .before .before in
-    sym (turn .before .loop .inv .1 ∙ route-refused _ _ _ (start .args .t7) (start .pre .0) (let good = start .good .1 .1 .1 .1 .1 .1 .0 in search needs) _ (turn .loop-test .taken) (c .before .before .before .before .before .before .route-end .ensures) (c .before .before .before .before .before .touches .ensures) (c .before .before .before .before .if1 .taken) (c .before .before .before .judge-known .ensures ∙ walked-known _ _ (start .pre .3) _ _ _) (c .before .verdict .given .1))
+    let e = turn .before .loop .inv .1 ∙ route-refused _ _ _ (start .args .t7) (start .pre .0) (let good = start .good .1 .1 .1 .1 .1 .1 .0 in search needs) _ (turn .loop-test .taken) (c .before .before .before .before .before .before .route-end .ensures) (c .before .before .before .before .before .touches .ensures) (c .before .before .before .before .if1 .taken) (c .before .before .before .judge-known .ensures ∙ walked-known _ _ (start .pre .3) _ _ _) (c .before .verdict .given .1) in
+    let w = end-within _ _ [] (start .args .t7) (start .pre .0) (let good = start .good .1 .1 .1 .1 .1 .1 .0 in search needs) _ (turn .loop-test .taken) (c .before .before .before .before .before .before .route-end .ensures) in
+    (sym (ap (λ (p : Verdict × List ℕ). p .0) e), sym (ap (λ (p : Verdict × List ℕ). p .1) e), omega (arith, w .0), w .1)
 
 loop-less : tie.Need-loop-less Inv-loop μ-loop
 loop-less c =
@@ -79,7 +82,8 @@ loop-again-2 c =
 returns-2 : tie.Need-returns-2 Inv-loop μ-loop
 returns-2 c =
     let start = c .before .before .before .before .before in
-    sym (c .before .loop .inv .1 ∙ routes-end _ _ _ (start .args .t7) (start .pre .0) (let good = start .good .1 .1 .1 .1 .1 .1 .0 in search needs) _ (c .loop-test .left))
+    let e = c .before .loop .inv .1 ∙ routes-end _ _ _ (start .args .t7) (start .pre .0) (let good = start .good .1 .1 .1 .1 .1 .1 .0 in search needs) _ (c .loop-test .left) in
+    (sym (ap (λ (p : Verdict × List ℕ). p .0) e), sym (ap (λ (p : Verdict × List ℕ). p .1) e), omega arith, omega arith)
 
 pub judge-touched-spec : {M : Type 1} → statement M
 judge-touched-spec =

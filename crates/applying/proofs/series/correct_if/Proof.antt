@@ -11,8 +11,11 @@ correct-requires c κs = search needs
 returns : tie.Need-returns
 returns c = when-marked _ _ _ _ (c .before .if1 .taken) (c .correct .ensures)
 
+no-fault-requires : tie.Need-no-fault-requires
+no-fault-requires c κs = search needs
+
 returns-2 : tie.Need-returns-2
-returns-2 c = when-not _ _ _ _ (c .if1 .left) refl refl (c .before .before .before .before .pre .0)
+returns-2 c = when-not _ _ _ _ (c .before .if1 .left) refl refl (c .before .before .before .before .before .pre .0)
 
 pub correct-if-spec : {M : Type 1} → statement M
-correct-if-spec = tie.close (tie.spec correct-requires returns returns-2)
+correct-if-spec = tie.close (tie.spec correct-requires returns no-fault-requires returns-2)
