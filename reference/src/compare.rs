@@ -22,7 +22,7 @@ pub fn run(seed: u64, cases: u64, program: &[&str]) -> io::Result<usize> {
     fs::create_dir_all(&place)?;
     let compared = all_batches(seed, cases, program, &place);
     fs::remove_dir_all(&place)?;
-    let (tally, differing) = compared?;
+    let Compared { tally, reasons, differing } = compared?;
     println!("cases\t{cases}");
     for (kind, count) in tally {
         match kind {
@@ -30,6 +30,7 @@ pub fn run(seed: u64, cases: u64, program: &[&str]) -> io::Result<usize> {
             number => println!("refused by {number}\t{count}"),
         }
     }
+    println!("corrections taken for another\t{reasons}");
     if program.is_empty() {
         println!("not compared");
         return Ok(0);
@@ -41,12 +42,18 @@ pub fn run(seed: u64, cases: u64, program: &[&str]) -> io::Result<usize> {
     Ok(differing.len())
 }
 
-/// How many picks are refused by each number, 0 for those that stand; and the
-/// numbers of the cases that differ.
-type Compared = (BTreeMap<usize, usize>, Vec<u64>);
+/// How many picks are refused by each number, 0 for those that stand; how many
+/// corrections are taken that nobody wants; and the numbers of the cases that
+/// differ.
+#[derive(Default)]
+struct Compared {
+    tally: BTreeMap<usize, usize>,
+    reasons: usize,
+    differing: Vec<u64>,
+}
 
 fn all_batches(seed: u64, cases: u64, program: &[&str], place: &Path) -> io::Result<Compared> {
-    let (mut tally, mut differing) = (BTreeMap::new(), Vec::new());
+    let Compared { mut tally, mut reasons, mut differing } = Compared::default();
     let mut first = 1;
     while first <= cases {
         let last = cases.min(first + BATCH - 1);
@@ -54,7 +61,11 @@ fn all_batches(seed: u64, cases: u64, program: &[&str], place: &Path) -> io::Res
         fs::write(place.join("folders.bin"), folders.iter().flat_map(packed).collect::<Vec<u8>>())?;
         let expected: Vec<Vec<u8>> = (1..).zip(&folders).map(|(number, one)| answer(number, one)).collect();
         for answer in &expected {
-            *tally.entry(refusal_number(answer)).or_insert(0) += 1;
+            let number = refusal_number(answer);
+            *tally.entry(number).or_insert(0) += 1;
+            if number == 0 {
+                reasons += reliances(answer);
+            }
         }
         if let [start, words @ ..] = program {
             let done = Command::new(start).args(words).current_dir(place).output()?;
@@ -65,18 +76,26 @@ fn all_batches(seed: u64, cases: u64, program: &[&str], place: &Path) -> io::Res
         }
         first = last + 1;
     }
-    Ok((tally, differing))
+    Ok(Compared { tally, reasons, differing })
 }
 
 /// By which number the pick is refused, 0 where it stands: what it says is the
 /// second line of an answer.
 fn refusal_number(answer: &[u8]) -> usize {
-    let text = std::str::from_utf8(answer).expect("an answer is text");
-    let pick = text.lines().nth(1).expect("an answer has a pick");
+    // What `why` says of a refused record, at its end, may be no text.
+    let pick = answer.split(|byte| *byte == b'\n').nth(1).expect("an answer has a pick");
+    let pick = std::str::from_utf8(pick).expect("a pick is text");
     match pick.strip_prefix("no\t").and_then(|refusal| refusal.split('\t').next()) {
         Some(number) => number.parse().expect("a refusal has a number"),
         None => 0,
     }
+}
+
+/// How many lines of an answer that stands say that a correction is taken for
+/// another.
+fn reliances(answer: &[u8]) -> usize {
+    let text = std::str::from_utf8(answer).expect("an answer that stands is text");
+    text.lines().filter(|line| line.starts_with("take\t") && line.contains("\tfor\t")).count()
 }
 
 /// Which of the expected answers, counted from 0, were not printed as they are.

@@ -1,4 +1,4 @@
-//! The stored set of folders, most of them odd in one way, and what the three
+//! The stored set of folders, most of them odd in one way, and what the four
 //! programs print of each.
 //!
 //! What is read of the folders is kept one after the other: of each the lengths
@@ -10,12 +10,15 @@ use std::os::unix::fs::{symlink, PermissionsExt};
 use std::path::Path;
 use std::{fs, io};
 
-use crate::answers::{check_answer, newfile_answer, pick_answer, Inputs, NAMES};
+use crate::answers::{check_answer, newfile_answer, pick_answer, why_answer, Inputs, NAMES};
 use crate::file::LINE;
 use crate::files::changed;
 use crate::pick::{new_file, ROOM};
 use crate::pick_vectors::sum;
-use crate::picks::{all as all_picks, file, full_file, headings, largest, leg, log, put, renewed, Case};
+use crate::picks::{
+    all as all_picks, continuation, file, full_file, headings, largest, leg, leg_of, log, opening, out, put,
+    renewed, replaced, Case, Correction, Record,
+};
 use crate::Stored;
 
 /// What stands in a folder under the name of one of its files.
@@ -79,10 +82,13 @@ pub fn stored_files() -> Vec<Stored> {
         ("../examples/pqr/pick.out", pick_answer(&pqr)),
         ("../examples/pqr/newfile.out", newfile_answer(&pqr)),
         ("../examples/pqr/check.out", check_answer(&pqr)),
+        ("../examples/pqr/why.out", why_answer(&pqr)),
         ("../examples/left-behind/pick.out", pick_answer(&left_behind)),
         ("../examples/left-behind/newfile.out", newfile_answer(&left_behind)),
         ("../examples/left-behind/check.out", check_answer(&left_behind)),
+        ("../examples/left-behind/why.out", why_answer(&left_behind)),
         ("../examples/left-behind/by-cycle-date/check.out", check_answer(&by_cycle_date)),
+        ("../examples/left-behind/by-cycle-date/why.out", why_answer(&by_cycle_date)),
     ]);
     stored
 }
@@ -114,15 +120,16 @@ pub fn unpacked(mut bytes: &[u8]) -> Vec<Inputs> {
 /// The longest new file that is stored as it is.
 const LONGEST_SHOWN: usize = 2_000;
 
-/// What the three programs print of one folder; of a long new file its length
-/// and its check sum.
+/// What the four programs print of one folder; of a long new file its length and
+/// its check sum.
 pub fn answer(number: usize, inputs: &Inputs) -> Vec<u8> {
     let made = newfile_answer(inputs);
     let shown = match made.len() {
         0..=LONGEST_SHOWN => made,
         length => format!("bytes\t{length}\t{}\n", sum(&made)).into_bytes(),
     };
-    [format!("folder\t{number}\n").into_bytes(), pick_answer(inputs), shown, check_answer(inputs)].concat()
+    let first = format!("folder\t{number}\n").into_bytes();
+    [first, pick_answer(inputs), shown, check_answer(inputs), why_answer(inputs)].concat()
 }
 
 /// Makes the folders in a place, each by its number; beside them what is
@@ -142,6 +149,7 @@ pub fn write(place: &Path) -> io::Result<()> {
         fs::write(expected.join("pick"), pick_answer(&inputs))?;
         fs::write(expected.join("newfile"), newfile_answer(&inputs))?;
         fs::write(expected.join("check"), check_answer(&inputs))?;
+        fs::write(expected.join("why"), why_answer(&inputs))?;
         let unreadable = folder.entries.iter().any(|entry| matches!(entry, Entry::Unreadable(_)));
         let readable = if unreadable { "unreadable" } else { "readable" };
         list += &format!("{number}\t{readable}\t{}\n", folder.name);
@@ -162,6 +170,10 @@ pub fn all() -> Vec<Folder> {
     folders.extend(cycles());
     folders.extend(large());
     folders.extend(bad_bytes());
+    folders.extend(reasons());
+    folders.extend(unfit_lines());
+    folders.extend(refused_routes());
+    folders.extend(refused_records());
     folders
 }
 
@@ -403,5 +415,122 @@ fn bad_bytes() -> Vec<Folder> {
     vec![
         folder("1500 and a blank: frozen.txt", &short(&frozen, LINE), &log, &want),
         folder("1500 and a blank: log.txt", &frozen, &short(&log, put_in), &want),
+    ]
+}
+
+// ---- what there is to explain
+
+/// Corrections that are taken for another, by any of its lines.
+fn reasons() -> Vec<Folder> {
+    let frozen = file(&["P", "Q", "R"].map(|route| leg(route, 10, 0)));
+    let of = |name: &str, corrections: &[Correction], wanted: &[u32]| {
+        folder(name, &frozen, &log(corrections), &listed(wanted))
+    };
+    let on = |routes: &[&str], from: usize| -> Correction {
+        routes.iter().flat_map(|route| renewed(route, 10, from, from + 1)).collect()
+    };
+    let by_both = [on(&["P"], 0), on(&["Q"], 0), on(&["P", "Q"], 1)];
+    let fork = [on(&["P", "Q"], 0), on(&["P"], 1), on(&["Q"], 1)];
+    // The third relies on the first by Q, and by way of the second.
+    let detour = [on(&["P", "Q"], 0), on(&["P"], 1), [on(&["Q"], 1), on(&["P"], 2)].concat()];
+    let chain: Vec<Correction> = (0..200).map(|step| renewed("P", 10, step % 5, (step + 1) % 5)).collect();
+    // A route of bytes that no record has, put in and taken out again.
+    let odd = changed(&[b'~'; LINE - 1], &[(1, "\\\"<&>{|}%d\\n")]);
+    let passing = vec![put(&odd), out(&odd)];
+    vec![
+        of("taken for the first line, and for the third", &by_both, &[3]),
+        of("taken for two routes, the later one first", &[on(&["P", "Q"], 0), on(&["Q", "P"], 1)], &[2]),
+        of("taken for two", &fork, &[3, 2]),
+        of("taken for the second of two, the other left out", &fork, &[3]),
+        of("wanted, and relied on", &fork, &[1, 2]),
+        of("taken for a line that only takes out", &[on(&["R"], 0), vec![out(&leg("R", 10, 1))]], &[2]),
+        of("taken for one that is taken for another", &detour, &[3]),
+        of("taken for a route of odd bytes", &[passing.clone(), on(&["P"], 0), passing], &[3]),
+        of("200 corrections, each taken for the next", &chain, &[200]),
+    ]
+}
+
+/// Corrections with a line that can't be applied, behind lines that can.
+fn unfit_lines() -> Vec<Folder> {
+    let frozen = file(&["P", "Q", "R"].map(|route| leg(route, 10, 0)));
+    let of = |name: &str, last: Correction, wanted: &[u32]| {
+        let corrections = [renewed("P", 10, 0, 1), vec![], last, renewed("R", 10, 0, 1)];
+        folder(name, &frozen, &log(&corrections), &listed(wanted))
+    };
+    let then = |line| [renewed("Q", 10, 0, 1), vec![line, out(&leg("N", 10, 0))]].concat();
+    vec![
+        of("a D line that finds no such record", then(out(&leg("P", 10, 0))), &[1]),
+        of("an A line that finds its place taken", then(put(&leg("P", 10, 2))), &[4]),
+        of("a record taken out twice", then(out(&leg("Q", 10, 0))), &[]),
+        of("a line that can't be applied, and no such correction", then(out(&leg("P", 10, 0))), &[1, 5]),
+    ]
+}
+
+/// Corrections after which a route is refused, at a record of the frozen file, at
+/// one that was put in, or behind its last one.
+fn refused_routes() -> Vec<Folder> {
+    let climb = [leg_of("P", 10, 0, "CA"), leg_of("P", 20, 0, "CF"), leg_of("P", 30, 0, "TF")];
+    let noted =
+        [opening("Q", 10, 0), continuation("Q", 10, '2', 0), leg_of("Q", 20, 0, "CI"), leg("Q", 30, 0)];
+    let frozen = file(&[&climb[..], &noted, &[leg("R", 10, 0)]].concat());
+    let of = |name: &str, correction: Correction| {
+        let corrections = [renewed("R", 10, 0, 1), correction];
+        folder(&format!("refused route: {name}"), &frozen, &log(&corrections), b"1\n")
+    };
+    let without_course = |route: &str| put(&changed(&leg(route, 40, 0), &[(71, "    ")]));
+    let other_climb = changed(&climb[0], &[(124, "00001")]);
+    let beside = changed(&leg("P", 20, 1), &[(39, "1")]);
+    vec![
+        of("3, at a record put in", vec![put(&changed(&leg("P", 40, 0), &[(85, "1500 ")]))]),
+        of("3, with every column bad", vec![put(&vec![b'~'; LINE - 1])]),
+        of("4, at a record put in", vec![put(&changed(&leg("P", 15, 0), &[(35, "  ")]))]),
+        of("5, at a record put in", vec![without_course("P")]),
+        of("6, at a frozen leg", vec![out(&noted[1])]),
+        of("6, at a frozen continuation", vec![out(&noted[0])]),
+        of("6, behind the last record", vec![put(&opening("P", 40, 0))]),
+        of("6, behind the one record", vec![put(&opening("S", 10, 0))]),
+        of("7, at a record put in", vec![put(&beside), put(&continuation("P", 20, '2', 1))]),
+        of("8, at a frozen leg whose leg before is taken out", vec![out(&climb[1])]),
+        of("8, at a frozen leg that becomes the last", vec![out(&noted[3])]),
+        of("8, at a leg that is replaced", replaced(&climb[1], &leg_of("P", 20, 1, "VA"))),
+        of(
+            "the second one that is touched",
+            [replaced(&climb[0], &other_climb), vec![without_course("Q")]].concat(),
+        ),
+        of(
+            "the second one that is touched, on the first line",
+            [vec![without_course("Q")], replaced(&climb[0], &other_climb)].concat(),
+        ),
+        of("the first of two, on the last line", vec![without_course("R"), out(&noted[1]), out(&climb[1])]),
+    ]
+}
+
+/// Frozen files that are refused at a record, or where one is missing.
+fn refused_records() -> Vec<Folder> {
+    let [_, log, want] = pqr();
+    let legs = [leg_of("P", 10, 0, "CA"), leg_of("P", 20, 0, "CF"), leg_of("Q", 10, 0, "CA")];
+    let of = |name: &str, frozen: &[u8]| folder(&format!("refused record: {name}"), frozen, &log, &want);
+    let with = |at: usize, record: Record| {
+        let mut records = legs.to_vec();
+        records[at] = record;
+        file(&records)
+    };
+    let whole = file(&legs);
+    let mut no_line_feed = whole.clone();
+    no_line_feed[2 * LINE - 1] = 0;
+    vec![
+        of("1, cut in its middle", &whole[..2 * LINE + 70]),
+        of("1, a byte alone", &whole[..2 * LINE + 1]),
+        of("1, its line feed missing", &whole[..3 * LINE - 1]),
+        of("1, another byte for its line feed", &no_line_feed),
+        of("3, with every byte below 132", &[&whole[..LINE], &(0..132).collect::<Vec<u8>>(), b"\n"].concat()),
+        of("4", &with(1, changed(&legs[1], &[(35, "  ")]))),
+        of("5", &with(1, changed(&legs[1], &[(71, "    ")]))),
+        of("6, a leg in place of a continuation", &with(1, opening("P", 20, 0))),
+        of("6, behind the last one", &with(2, opening("Q", 10, 0))),
+        of("7, the route", &with(2, leg("N", 10, 0))),
+        of("7, the sequence number", &with(1, leg("P", 10, 0))),
+        of("8, behind another", &with(1, leg_of("P", 20, 0, "TF"))),
+        of("8, the last of its route", &with(1, leg_of("P", 20, 0, "VI"))),
     ]
 }

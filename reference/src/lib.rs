@@ -17,12 +17,12 @@
 //! - `log`: a correction log as text (9, 13)
 //! - `wanted`: a list of wanted corrections
 //! - `logs`: the stored set of both, and what this program answers to it
-//! - `pick`: a log judged over its frozen file, and picking (10, 11, 12, 14)
+//! - `pick`: a log judged over its frozen file, picking (10, 11, 12, 14), and what explains both
 //! - `picks`: the stored set of picks
 //! - `random_picks`: random ones, of routes of every kind
 //! - `pick_vectors`: how it is stored, and what this program answers to it
 //! - `times`: the inputs whose times are measured, in the same form
-//! - `answers`: what the three programs print
+//! - `answers`: what the four programs print
 //! - `folders`: the stored set of folders and the examples, and what this program answers to them
 //! - `random_folders`: folders without end, from a seed
 //! - `compare`: those, held to what another program answers to them

@@ -3,7 +3,7 @@
 //!
 //! - `times FOLDER`: the inputs whose times are measured, into a folder
 //! - `folders PLACE`: the stored folders as folders, and what the programs are to print of each
-//! - `print pick`, `print newfile`, `print check`: what that program is to print of the folder that this one runs in
+//! - `print pick`, `print newfile`, `print check`, `print why`: what that program is to print of the folder that this one runs in
 //! - `answers`: what this program answers to `folders.bin` in the folder that it runs in, as `vectors_answers` prints it
 //! - `compare SEED N [WORDS]`: N random folders from a seed, held to what the program that the words start answers
 //! - `random SEED NUMBER FOLDER`: the files of one of them, into a folder
@@ -33,6 +33,7 @@ fn run() -> io::Result<()> {
         ["print", "pick"] => io::stdout().write_all(&answers::pick_answer(&read_folder())),
         ["print", "newfile"] => io::stdout().write_all(&answers::newfile_answer(&read_folder())),
         ["print", "check"] => io::stdout().write_all(&answers::check_answer(&read_folder())),
+        ["print", "why"] => io::stdout().write_all(&answers::why_answer(&read_folder())),
         ["answers"] => answer_folders(),
         ["compare", seed, cases, ref program @ ..] => {
             let differing = compare::run(number(seed)?, number(cases)?, program)?;

@@ -69,7 +69,7 @@ pub(crate) fn without_line_feed(mut line: Vec<u8>) -> Record {
 
 /// A leg of the route with this transition. The version is its file record
 /// number, which nothing is judged by.
-fn leg_of(route: &str, sequence: usize, version: usize, terminator: &str) -> Record {
+pub(crate) fn leg_of(route: &str, sequence: usize, version: usize, terminator: &str) -> Record {
     let changes: [Change; 3] =
         [(21, &format!("{route:5}")), (48, terminator), (124, &format!("{version:05}"))];
     without_line_feed(files::leg(sequence, &changes))
@@ -82,11 +82,11 @@ pub(crate) fn leg(route: &str, sequence: usize, version: usize) -> Record {
 }
 
 /// A leg whose continuations follow.
-fn opening(route: &str, sequence: usize, version: usize) -> Record {
+pub(crate) fn opening(route: &str, sequence: usize, version: usize) -> Record {
     changed(&leg(route, sequence, version), &[(39, "1")])
 }
 
-fn continuation(route: &str, sequence: usize, number: char, version: usize) -> Record {
+pub(crate) fn continuation(route: &str, sequence: usize, number: char, version: usize) -> Record {
     let changes: [Change; 2] = [(21, &format!("{route:5}")), (124, &format!("{version:05}"))];
     without_line_feed(files::continuation(sequence, number, &changes))
 }

@@ -1,9 +1,9 @@
-//! The stored folders keep their limits and meet every refusal, the three
-//! answers agree with each other, and the examples are what they tell.
+//! The stored folders keep their limits and meet every refusal, the four answers
+//! agree with each other, and the examples are what they tell.
 
 use std::collections::HashSet;
 
-use reference::answers::{check_answer, newfile_answer, pick_answer, Inputs};
+use reference::answers::{check_answer, newfile_answer, pick_answer, why_answer, Inputs};
 use reference::compare::differences;
 use reference::folders::{all, answer, examples, packed, stored_files, unpacked, Folder};
 use reference::random_folders::random;
@@ -12,12 +12,15 @@ fn text(bytes: Vec<u8>) -> String {
     String::from_utf8(bytes).expect("an answer is text")
 }
 
+/// The first line of an answer, which is text where a later one may be none.
+fn first_line(answer: &[u8]) -> String {
+    text(answer.split(|byte| *byte == b'\n').next().expect("a line").to_vec())
+}
+
 /// By which number an answer refuses, 0 where it stands.
 fn refusal_number(answer: &[u8]) -> usize {
-    match answer.strip_prefix(b"no\t") {
-        Some(rest) => {
-            text(rest.to_vec()).split('\t').next().and_then(|word| word.parse().ok()).expect("a number")
-        }
+    match first_line(answer).strip_prefix("no\t") {
+        Some(rest) => rest.split('\t').next().and_then(|word| word.parse().ok()).expect("a number"),
         None => 0,
     }
 }
@@ -48,25 +51,35 @@ fn every_refusal_is_met_that_can_be() {
     };
     assert_eq!(numbers(pick_answer), (0..=13).collect());
     assert_eq!(numbers(newfile_answer), (0..=13).collect());
+    assert_eq!(numbers(why_answer), (0..=13).collect());
     assert_eq!(numbers(check_answer), (0..=13).filter(|number| *number != 12).collect());
 }
 
 #[test]
-fn the_three_answers_agree() {
+fn the_four_answers_agree() {
     for inputs in stored_and_random() {
         let (picked, made, checked) = (pick_answer(&inputs), newfile_answer(&inputs), check_answer(&inputs));
-        assert!(picked.len() <= 1_813 && made.len() <= 63_840);
+        let explained = why_answer(&inputs);
+        assert!(picked.len() <= 1_813 && made.len() <= 63_840 && explained.len() <= 8_600);
         match refusal_number(&picked) {
             0 => {
-                let first = text(picked).lines().next().map(str::to_string).expect("a line");
-                let records = first.split('\t').nth(2).and_then(|word| word.parse::<usize>().ok());
+                let records =
+                    first_line(&picked).split('\t').nth(2).and_then(|word| word.parse::<usize>().ok());
                 assert_eq!(records, Some(made.len() / 133));
                 assert!(made.chunks(133).all(|line| b"ST".contains(&line[0]) && line[132] == b'\n'));
                 assert!(checked.starts_with(b"ok\t"));
+                // A line for each one taken, which begins as that of the pick.
+                let (picked, explained) = (text(picked), text(explained));
+                assert_eq!(picked.lines().count(), 1 + explained.lines().count());
+                let begins = |(take, reason): (&str, &str)| reason.starts_with(&format!("{take}\t"));
+                assert!(picked.lines().skip(1).zip(explained.lines()).all(begins));
             }
             // Nothing wanted is asked about by a check, which may go on to 10 and 11.
-            12 => assert!(made == picked && [0, 10, 11].contains(&refusal_number(&checked))),
-            _ => assert!(made == picked && checked == picked),
+            12 => {
+                assert!(made == picked && explained == picked);
+                assert!([0, 10, 11].contains(&refusal_number(&checked)));
+            }
+            _ => assert!(made == picked && checked == picked && explained.starts_with(&picked)),
         }
     }
 }
@@ -76,9 +89,13 @@ fn the_requirement_prints_exactly_this() {
     let [pqr, ..] = examples();
     assert_eq!(text(pick_answer(&pqr.inputs())), "pick\t3\t3\ntake\t1\ntake\t3\ntake\t5\n");
     assert_eq!(text(check_answer(&pqr.inputs())), "ok\t3\t5\n");
+    let [p, r] = ["SEURP LPRDLPFI09   APAINE", "SEURP LPRDLPFI09   ARADIX"];
+    let reasons = format!("take\t1\tfor\t3\t{p}\ntake\t3\tfor\t5\t{r}\ntake\t5\twanted\n");
+    assert_eq!(text(why_answer(&pqr.inputs())), reasons);
     let inputs = Inputs { want: b"6\n".to_vec(), ..pqr.inputs() };
     assert_eq!(text(pick_answer(&inputs)), "no\t12\t1\t0\n");
     assert_eq!(text(newfile_answer(&inputs)), "no\t12\t1\t0\n");
+    assert_eq!(text(why_answer(&inputs)), "no\t12\t1\t0\n");
 }
 
 /// The check of the stored folder with this name.
@@ -125,6 +142,10 @@ fn the_leg_that_was_left_behind() {
     let newest_alone = text(inputs.frozen).replace(&taken_out, &put_in);
     assert_eq!(newest_alone, text(by_cycle_date.inputs().frozen));
     assert_eq!(text(check_answer(&by_cycle_date.inputs())), "no\t8\t8\t48\n");
+    // The first is taken for the last, by the approach, and the newest alone is refused at the leg that it puts in.
+    let reasons = format!("take\t1\tfor\t3\t{}\ntake\t3\twanted\n", &put_in[..25]);
+    assert_eq!(text(why_answer(&left_behind.inputs())), reasons);
+    assert_eq!(text(why_answer(&by_cycle_date.inputs())), format!("no\t8\t8\t48\nrecord\t{put_in}\n"));
 }
 
 #[test]

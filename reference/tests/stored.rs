@@ -1,10 +1,10 @@
-//! All stored files are what the program makes, the three programs are to print
+//! All stored files are what the program makes, the four programs are to print
 //! what it answers to their own data, and the set of records keeps to its size.
 
 use std::fs;
 use std::path::Path;
 
-use reference::answers::{check_answer, newfile_answer, pick_answer, Inputs, NAMES};
+use reference::answers::{check_answer, newfile_answer, pick_answer, why_answer, Inputs, NAMES};
 use reference::{cases, read, stored_files, write};
 
 #[test]
@@ -22,8 +22,12 @@ type Program = (&'static str, fn(&Inputs) -> Vec<u8>);
 #[test]
 fn the_programs_are_to_print_what_this_one_answers() {
     let root = Path::new(env!("CARGO_MANIFEST_DIR")).join("..");
-    let programs: [Program; 3] =
-        [("pick", pick_answer), ("newfile", newfile_answer), ("check_log", check_answer)];
+    let programs: [Program; 4] = [
+        ("pick", pick_answer),
+        ("newfile", newfile_answer),
+        ("check_log", check_answer),
+        ("why", why_answer),
+    ];
     for (name, answer) in programs {
         let folder = root.join("crates").join(name);
         let [frozen, log, want] =

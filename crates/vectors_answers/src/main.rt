@@ -3,6 +3,7 @@
 //   the answer of `pick`, as it is
 //   the answer of `newfile`, as it is where it has at most 2,000 bytes; else bytes, how many, and their check sum
 //   the answer of `check_log`, as it is
+//   the answer of `why`, as it is
 // folders.bin has for each folder three lengths, of four bytes each with the highest first, and then as many bytes of frozen.txt, of log.txt
 // and of want.txt. It is read folder by folder, so there may be any number of them; the first one whose lengths are not whole ends the run.
 // The folders and what is to be printed are made by the program in reference/.
@@ -86,6 +87,8 @@ fn print_answers<'a>(
     print_file(file, made.length);
     let checked = answers::check_answer(frozen, log, lines);
     print_first(lines, checked.length);
+    let explained = answers::why_answer(frozen, log, want, lines);
+    print_first(lines, explained.length);
 }
 
 // The length that is stored at this place.
@@ -154,7 +157,7 @@ fn main() {
     let mut frozen = [0u8; answers::FROZEN_READ];
     let mut log = [0u8; answers::LOG_READ];
     let mut want = [0u8; answers::WANT_READ];
-    let mut lines = [0u8; answers::LONGEST_PICK];
+    let mut lines = [0u8; answers::LONGEST_WHY];
     let mut file = [0u8; answers::LONGEST_FILE];
     print_folders(fd, &mut frozen, &mut log, &mut want, &mut lines, &mut file);
     libc::close(fd);
