@@ -434,8 +434,9 @@ fn reasons() -> Vec<Folder> {
     // The third relies on the first by Q, and by way of the second.
     let detour = [on(&["P", "Q"], 0), on(&["P"], 1), [on(&["Q"], 1), on(&["P"], 2)].concat()];
     let chain: Vec<Correction> = (0..200).map(|step| renewed("P", 10, step % 5, (step + 1) % 5)).collect();
-    // A route of bytes that no record has, put in and taken out again.
-    let odd = changed(&[b'~'; LINE - 1], &[(1, "\\\"<&>{|}%d\\n")]);
+    // A route that no record has, put in and taken out again. Some of its bytes mean something in a shell, a
+    // format or a graph.
+    let odd = changed(&[b'~'; LINE - 1], &[(1, "$'`*%s"), (7, "<{|>"), (14, "\\N\"&#;"), (21, "\"x &\\")]);
     let passing = vec![put(&odd), out(&odd)];
     vec![
         of("taken for the first line, and for the third", &by_both, &[3]),

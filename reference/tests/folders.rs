@@ -142,7 +142,7 @@ fn the_leg_that_was_left_behind() {
     let newest_alone = text(inputs.frozen).replace(&taken_out, &put_in);
     assert_eq!(newest_alone, text(by_cycle_date.inputs().frozen));
     assert_eq!(text(check_answer(&by_cycle_date.inputs())), "no\t8\t8\t48\n");
-    // The first is taken for the last, by the approach, and the newest alone is refused at the leg that it puts in.
+    // The first is taken for the last, by the approach; the newest alone is refused at the leg it puts in.
     let reasons = format!("take\t1\tfor\t3\t{}\ntake\t3\twanted\n", &put_in[..25]);
     assert_eq!(text(why_answer(&left_behind.inputs())), reasons);
     assert_eq!(text(why_answer(&by_cycle_date.inputs())), format!("no\t8\t8\t48\nrecord\t{put_in}\n"));
