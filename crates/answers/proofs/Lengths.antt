@@ -8,7 +8,6 @@ use lib.ListN.{length, take, replicate, length-append, length-map}
 use lib.Seq.{take-at, length-take-le}
 use mathlib.Core.Bool.{Bool, true, false, cond}
 use lib.Dec.{eqb, ltb}
-use borrow.Author.Tests.{ltb-false}
 use Rattle.slices.proofs.Cases.{split}
 use Rattle.slices.proofs.PartLaws.{length-part}
 use Rattle.refusals.proofs.VerdictLaws.{never}

@@ -6,12 +6,12 @@ use mathlib.Core.List.{List, [], _∷_, _++_, map, append-nil, append-assoc}
 use mathlib.Core.Option.{none}
 use Prim.Native.Nat.{ℕ, zero, suc, _+_, _-_, _*_, _≤_, _<_, min}
 use native.Mathlib.Omega.{arith}
-use lib.Dec.{eqb, leb, ltb}
-use lib.ListN.{length, getD, take, drop, replicate, length-append, length-map, length-take, length-drop, List·getD-append, List·getD-map, drop-of-length-le}
+use lib.Dec.{leb, ltb}
+use lib.ListN.{length, getD, take, drop, replicate, length-map, length-take, length-drop, List·getD-append, List·getD-map, drop-of-length-le}
 use lib.Seq.{sets, take-suc, take-all}
 use borrow.Author.Tests.{eq-eqb, ne-eqb, leb-true, leb-false}
 use Rattle.slices.specs.Part.{part, padded}
-use Rattle.slices.proofs.Cases.{is-true, is-false, and-left, and-right, split}
+use Rattle.slices.proofs.Cases.{is-true, is-false, and-left, and-right}
 use Rattle.slices.proofs.PartLaws.{length-part}
 use Rattle.columns.specs.Patterns.{codes}
 use Rattle.refusals.specs.declared.Refusal.{Refusal}
@@ -24,7 +24,7 @@ use Rattle.applying.specs.Correct.{Outcome, stopped, reached}
 use Rattle.applying.specs.declared.Fault.{Fault}
 use Rattle.wanted.specs.Numbers.{numbersIn}
 use Rattle.selection.specs.Failing.{failureAs, settledOf}
-use Rattle.selection.specs.Pick.{lineIn, outcomeVerdict}
+use Rattle.selection.specs.Pick.{lineIn}
 use Rattle.selection.specs.Reasons.{Reason, relyingOf, relyingSource, reasonsOf, reasonsWith, reasonsAs}
 use Rattle.selection.specs.declared.Explained.{Explained}
 use Rattle.selection.specs.declared.Failure.{Failure}

@@ -4,7 +4,7 @@ use mathlib.Core.Path.{_≡_, sym, ap, ap₂, _∙_}
 use mathlib.Core.List.{List, [], _∷_}
 use Prim.Native.Nat.{ℕ, suc, _+_, _≤_, _<_}
 use native.Mathlib.Omega.{arith}
-use lib.ListN.{length, getD, take, drop, replicate, set, length-drop, length-take, drop-of-length-le}
+use lib.ListN.{length, getD, take, drop, replicate, set, length-drop, drop-of-length-le}
 use lib.Seq.{sets, drop-cons, getD-take, length-take-le}
 use Rattle.slices.proofs.WriteLaws.{stored-front}
 use Rattle.routes.specs.Sources.{inUse, sourcesIn, sourcesFor}

@@ -4,7 +4,7 @@ use mathlib.Core.Path.{_≡_, refl, sym, ap, _∙_}
 use mathlib.Core.Bool.{Bool, true, cond}
 use mathlib.Core.List.{List, [], _∷_, _++_, map}
 use mathlib.Core.Option.{Option, none, some, bind, Option·map}
-use Prim.Native.Nat.{ℕ, suc, _+_}
+use Prim.Native.Nat.{ℕ, _+_}
 use native.Mathlib.Omega.{arith}
 use Rattle.refusals.specs.declared.Refusal.{Refusal}
 use Rattle.refusals.specs.declared.Verdict.{Verdict}
@@ -14,7 +14,7 @@ use Rattle.history.specs.Apply.{applyAll, correct}
 use Rattle.history.specs.Sets.{Numbers}
 use Rattle.history.proofs.Cases.{every-some}
 use Rattle.applying.specs.Apply.{ifApplied, lineApplied, linesApplied, failsAt, touchedJudged, refusedRoute}
-use Rattle.applying.specs.Correct.{Wrong, wrongLine, wrongRoute, Outcome, stopped, reached, afterLines, afterJudging, corrected}
+use Rattle.applying.specs.Correct.{Wrong, Outcome, stopped, reached, afterLines, afterJudging, corrected}
 use Rattle.applying.specs.Procedures.{procedures, operation, operations}
 use Rattle.applying.specs.Run.{onward, ran}
 use Rattle.applying.specs.Wrong.{FirstWrong, line, route, behind}

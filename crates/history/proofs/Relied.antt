@@ -1,7 +1,7 @@
 -- What it is to rely on a correction directly; and that of the fewest corrections each is wanted, or another of them relies on it.
 -- Assumes nothing.
-use mathlib.Core.Path.{_≡_, refl, sym, ap, _∙_}
-use mathlib.Core.Bool.{Bool, true, false, false≢true}
+use mathlib.Core.Path.{_≡_, refl, sym, _∙_}
+use mathlib.Core.Bool.{true, false, false≢true}
 use mathlib.Core.List.{List}
 use mathlib.Core.Logic.{_↔_, ite, by-cases}
 use Prim.Native.Nat.{ℕ, zero, suc, _≤_, _<_}

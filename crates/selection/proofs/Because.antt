@@ -1,8 +1,8 @@
--- What is promised of the reasons (`Explained`, in specs/Demand): there is one for each correction taken, each is so, and following them leads to
+-- What is promised of the reasons (`AllExplained`, in specs/Demand): there is one for each correction taken, each is so, and following them leads to
 -- a wanted one.
 -- Assumes nothing.
-use mathlib.Core.Path.{_≡_, refl, sym, ap, ap₂, subst, _∙_}
-use mathlib.Core.Bool.{Bool, true, false, cond, _&&_, false≢true}
+use mathlib.Core.Path.{_≡_, refl, sym, ap, subst, _∙_}
+use mathlib.Core.Bool.{Bool, true, false, cond, false≢true}
 use mathlib.Core.List.{List, [], _∷_, _++_, map, List·Memᴰ, List·Memᴰ·head, List·Memᴰ·tail}
 use mathlib.Core.Option.{Option, none, some}
 use Prim.Native.Nat.{ℕ, zero, suc, _+_, _-_, _≤_, _<_}
@@ -26,7 +26,7 @@ use Rattle.history.proofs.Statements.{fewest}
 use Rattle.applying.specs.Correct.{Outcome, stopped, reached}
 use Rattle.applying.specs.Procedures.{procedures, logOf}
 use Rattle.applying.specs.Run.{byCorrection}
-use Rattle.selection.specs.Demand.{TakenFor, Explains, asWanted, byLine, Leads, arrives, onward, Explained}
+use Rattle.selection.specs.Demand.{TakenFor, Explains, asWanted, byLine, Leads, arrives, onward, AllExplained}
 use Rattle.selection.specs.Failing.{judgedThen, settled, settledFrom, settledOf}
 use Rattle.selection.specs.Pick.{opened, wantedStage, everything, wants, membersFrom, refusedBy, picked, judgedFirst, ranFirst, outcomeVerdict, carried, takenOf, pickBy, pickFrom, pickOf}
 use Rattle.selection.specs.Reasons.{Reason, relyingOf, reliesOn, firstRelying, reasonOf, reasonsBy, unlessStopped, reasonsFrom, reasonsOf}
@@ -281,7 +281,7 @@ module _ (f l : List ℕ) (n : ℕ) (es : List Entry) (b : ByCorrection n es) (w
 module _ (frozen log ws : List ℕ) where
   -- Where the pick stands, so do the reasons, and they are what is promised of them.
   pub picked-explained : (taken sources : List ℕ) → pickOf frozen log ws ≡ picked taken sources
-      → (outcomeVerdict (settledOf frozen log ws) ≡ Accepted) × Explained frozen log ws taken (reasonsOf frozen log ws)
+      → (outcomeVerdict (settledOf frozen log ws) ≡ Accepted) × AllExplained frozen log ws taken (reasonsOf frozen log ws)
   unfolding settledOf reasonsOf settled
   picked-explained taken xs e =
       let (n, es, s) = steps frozen log ws taken xs e in

@@ -8,14 +8,14 @@ use Prim.Native.Nat.{ℕ, zero, suc, _+_, _-_, _≤_, _<_}
 use native.Mathlib.Omega.{arith}
 use native.Mathlib.Nat.{sub-zero}
 use lib.Dec.{eqb}
-use lib.ListN.{length, getD, take, drop, set, replicate, length-map, length-set, length-take, drop-of-length-le}
+use lib.ListN.{length, getD, take, drop, set, replicate, length-map, length-set, drop-of-length-le}
 use lib.Seq.{sets, drop-cons, getD-take, getD-set-same, getD-set-other, take-at, length-take-le}
 use borrow.Author.Tests.{eqb-true, eqb-false, eq-eqb}
 use Rattle.slices.specs.Part.{member, padded}
 use Rattle.slices.proofs.Cases.{split, or-left, or-right}
 use Rattle.slices.proofs.PartLaws.{one-less, zero-at}
 use Rattle.slices.proofs.WriteLaws.{stored-front}
-use Rattle.corrections.specs.Reading.{Entry, said, indexOf}
+use Rattle.corrections.specs.Reading.{Entry}
 use Rattle.corrections.specs.declared.Index.{Index}
 use Rattle.routes.specs.Places.{Every}
 use Rattle.routes.specs.Sources.{logSource}
@@ -32,7 +32,6 @@ use Rattle.selection.specs.declared.explaining.Naming.{Naming}
 use Rattle.selection.proofs.GroupLaws.{ByCorrection}
 use Rattle.selection.proofs.IndexLaws.{noLine, entry-at, correction-at}
 use Rattle.selection.proofs.LastLaws.{routeIn}
-use Rattle.selection.proofs.MemberLaws.{members-few}
 use Rattle.selection.proofs.TakenLaws.{index, relied, L, count-lines, length-log, line}
 
 -- ---- the marks of the wanted numbers, of which those from k on are left

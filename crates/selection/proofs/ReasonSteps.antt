@@ -16,7 +16,6 @@ use Rattle.selection.specs.Failing.{settledFrom}
 use Rattle.selection.specs.Pick.{Reads, membersFrom, membersAs, takenOf}
 use Rattle.selection.specs.Reasons.{reasonsBy, reasonsFrom, reasonsWith, reasonsAs, Chooses, Asked, namedWith}
 use Rattle.selection.specs.declared.Explained.{Explained}
-use Rattle.selection.specs.declared.Failure.{Failure}
 use Rattle.selection.specs.declared.carry.Members.{Members}
 use Rattle.selection.specs.declared.choosing.Chosen.{Chosen}
 use Rattle.selection.proofs.CarryLaws.{corrections-of, lines-of, index-few, members-same, no-reason, all-reasons}

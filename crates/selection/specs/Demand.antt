@@ -89,7 +89,7 @@ pub data Leads (wanted : List ℕ) (reasons : List Reason) : ℕ → Type 0 wher
       → Leads wanted reasons p
 
 -- What is promised of the reasons for the numbers taken: there is one for each, in their order; each is so; and each leads to a wanted one.
-pub record Explained (frozen log wanted taken : List ℕ) (reasons : List Reason) : Type 0 where
+pub record AllExplained (frozen log wanted taken : List ℕ) (reasons : List Reason) : Type 0 where
   pub legal : LegalLog log (length (records frozen))
   pub lines : List Entry
   pub read : readLog log (length (records frozen)) ≡ said (length (legal .corrections)) lines

@@ -1,9 +1,10 @@
-// Corrections carried into a frozen file: a log checked, the corrections picked that are wanted and those that they rely on, and the new
-// file that they make. Assumes nothing of the caller: any frozen file, any log, any wanted numbers, any buffer.
+// Corrections carried into a frozen file: a log checked, the corrections picked that are wanted and those that they rely on, why each of
+// them is taken, and the new file that they make. Assumes nothing of the caller: any frozen file, any log, any wanted numbers, any buffer.
 //
 // A pick goes over the log twice: once for its verdict, once with the corrections taken. For L lines and at most R records each pass makes
 // at most L times R comparisons of places, of routes, and of records with those before them, 25 to 53 bytes each, and judges L and R records
-// by themselves; what the lines rely on is L times L comparisons more, once (docs/PERFORMANCE.md).
+// by themselves; what the lines rely on is L times L comparisons more, once. The reasons take one pass, and as many comparisons of two numbers
+// as lines times corrections taken (docs/PERFORMANCE.md).
 mod carry;
 mod choosing;
 mod explaining;
@@ -108,7 +109,7 @@ pub fn reasons<'a>(frozen: &'a [u8], log: &'a [u8], wanted: &[u32]) -> Explained
     }
 }
 
-// The same with the new file's bytes in a buffer: 14 where fewer than 63,840 bytes are lent. Zeros past the file; on every refusal the whole
+// A pick with the new file's bytes in a buffer: 14 where fewer than 63,840 bytes are lent. Zeros past the file; on every refusal the whole
 // buffer is 0.
 pub fn new_file<'a>(frozen: &'a [u8], log: &'a [u8], wanted: &[u32], out: &mut [u8]) -> Picked
     ensures { λ r. ⌜ FileMade (now (frozen .entry)) (now (log .entry)) (now (wanted .entry)) (now (out .entry)) (now (out .exit)) r ⌝ }

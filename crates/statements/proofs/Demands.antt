@@ -47,7 +47,7 @@ use Rattle.applying.specs.Correct.{Wrong, stopped}
 use Rattle.selection.specs.Failing.{outcomeOf, failureOf, settledOf}
 use Rattle.selection.specs.Reasons.{reasonsOf}
 use Rattle.selection.specs.Pick.{opened, wantedStage, everything, refusedBy, picked, outcomeVerdict, carried, logVerdict, pickOf, newBytes, filePick}
-use Rattle.selection.specs.Demand.{Demanded, Told, Explained}
+use Rattle.selection.specs.Demand.{Demanded, Told, AllExplained}
 use Rattle.selection.proofs.Because.{picked-explained, refused-unexplained}
 use Rattle.selection.proofs.Demand.{picked-demand, pick-iff, log-runs}
 use Rattle.selection.proofs.FailingLaws.{same-verdict, tells}
@@ -213,7 +213,7 @@ sources-of-a-pick = sources-handed
 -- taken relies on it directly that does, by the first line that is on such a route; and following the reasons leads by rising numbers to a
 -- wanted one. Where the pick is refused, it is refused by the same, and no reason is given.
 pub reasons-are-so : (frozen log wanted taken sources : List ℕ) → pickOf frozen log wanted ≡ picked taken sources
-    → (outcomeVerdict (settledOf frozen log wanted) ≡ Accepted) × Explained frozen log wanted taken (reasonsOf frozen log wanted)
+    → (outcomeVerdict (settledOf frozen log wanted) ≡ Accepted) × AllExplained frozen log wanted taken (reasonsOf frozen log wanted)
 reasons-are-so = picked-explained
 
 pub reasons-refused : (frozen log wanted : List ℕ) (r : Refusal) → pickOf frozen log wanted ≡ refusedBy r

@@ -5,7 +5,6 @@ use Rattle.answers.specs.Why.{explainedLines}
 use Rattle.answers.specs.Written.{Wrote}
 use Prim.Native.Nat.{_-_, _*_, _≤_}
 use mathlib.Core.Path.{_≡_, refl}
-use lib.ListN.{length}
 use native.Mathlib.Omega.{arith}
 use borrow.Author.Needs.{needs}
 use Rattle.answers.proofs.whys.put_reasons.Statement.{statement}

@@ -1,8 +1,5 @@
 -- The refusal within the route, then its record. Assumes nothing.
 use Rattle.answers.proofs.WhyLaws.{line-few, route-wrote}
-use mathlib.Core.Path.{ap}
-use lib.ListN.{length}
-use Prim.Native.Nat.{_≤_}
 use native.Mathlib.Omega.{arith}
 use borrow.Author.Needs.{needs}
 use Rattle.answers.proofs.whys.put_route.Statement.{statement}

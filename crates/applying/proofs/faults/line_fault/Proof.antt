@@ -1,7 +1,6 @@
 -- Put together as the definition says. Assumes nothing.
 use mathlib.Core.Path.{refl}
 use Rattle.routes.specs.Sources.{sourcesFor}
-use Rattle.refusals.specs.Table.{refusal}
 use Rattle.applying.specs.Correct.{faultAs}
 use Rattle.applying.proofs.faults.line_fault.Statement.{statement}
 use Rattle.applying.proofs.faults.line_fault.Tie as tie

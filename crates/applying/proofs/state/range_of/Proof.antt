@@ -2,7 +2,7 @@
 use Rattle.routes.specs.Sources.{inUse, sourcesIn, sourcesFor}
 use lib.ListN.{length, take, drop}
 use Prim.Native.Nat.{_+_, _-_, _≤_}
-use mathlib.Core.Path.{_≡_, refl}
+use mathlib.Core.Path.{_≡_}
 use Rattle.applying.proofs.RangeLaws.{withMore, range-start, range-next, range-end}
 use borrow.Author.Needs.{needs}
 use native.Mathlib.Omega.{arith}

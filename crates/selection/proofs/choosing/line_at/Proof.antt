@@ -2,7 +2,7 @@
 use Rattle.selection.specs.Failing.{lineAt}
 use lib.ListN.{length}
 use Prim.Native.Nat.{_+_, _-_, _≤_, min}
-use mathlib.Core.Path.{_≡_, refl}
+use mathlib.Core.Path.{_≡_}
 use Rattle.selection.proofs.FailingLaws.{feedsFrom, no-line, lines-start, lines-next, lines-end}
 use borrow.Author.Needs.{needs}
 use native.Mathlib.Omega.{arith}

@@ -1,7 +1,6 @@
 -- The invariant: the lines that are left give the answer. Assumes nothing.
 use Rattle.selection.specs.Reasons.{namedFrom}
 use Rattle.selection.proofs.ExplainLaws.{named-start, named-found, named-next, named-end}
-use lib.ListN.{length}
 use Prim.Native.Nat.{_-_}
 use mathlib.Core.Path.{_≡_}
 use borrow.Author.Needs.{needs}
