@@ -21,7 +21,7 @@
 use std::collections::HashMap;
 
 use crate::file::LINE;
-use crate::pick::{check_log, new_file, pick, Picked, ROOM};
+use crate::pick::{check_log, failing, new_file, pick, reasons, Cause, Picked, Reason, Why, ROOM};
 use crate::picks::{all, Case};
 use crate::{Refusal, Stored};
 
@@ -49,16 +49,72 @@ pub(crate) fn sum(bytes: &[u8]) -> u64 {
     bytes.iter().fold(0, |sum, byte| rolled(sum, usize::from(*byte)))
 }
 
+/// All places of an array, which are 0 past the last number.
+fn places(numbers: &[usize], most: usize) -> Vec<usize> {
+    [numbers, &vec![0; most - numbers.len()]].concat()
+}
+
 /// The check sum of an answer by value: two counts, each with all places of its
-/// array, which are 0 past the count.
+/// array.
 fn answer_sum(picked: Option<&Picked>) -> u64 {
-    let (taken, sources) =
-        picked.map_or((vec![], vec![]), |picked| (picked.taken.clone(), picked.sources.clone()));
-    let places = |numbers: &[usize], most: usize| {
-        let zeros = vec![0; most - numbers.len()];
-        [&[numbers.len()], numbers, &zeros].concat()
+    let (taken, sources): (&[usize], &[usize]) =
+        picked.map_or((&[], &[]), |picked| (&picked.taken, &picked.sources));
+    let numbers = [vec![taken.len()], places(taken, 200), vec![sources.len()], places(sources, 480)].concat();
+    numbers.into_iter().fold(0, rolled)
+}
+
+/// What is wrong with a log that is refused by 10 or 11: the line and the offset
+/// of its record, or the route's own refusal and the sources of its records.
+#[derive(Default)]
+struct Wrong {
+    line: usize,
+    at: usize,
+    /// Its number, place and column.
+    inner: [usize; 3],
+    sources: Vec<usize>,
+}
+
+impl Wrong {
+    fn of(frozen: &[u8], log: &[u8]) -> Wrong {
+        match failing(frozen, log).map(|failure| failure.cause) {
+            None => Wrong::default(),
+            Some(Cause::Line(line)) => {
+                let before = log.split_inclusive(|byte| *byte == b'\n').take(line - 1);
+                // Behind the letter and the tab.
+                Wrong { line, at: before.map(<[u8]>::len).sum::<usize>() + 2, ..Wrong::default() }
+            }
+            Some(Cause::Route { sources, refusal: Refusal { number, place, column }, .. }) => {
+                Wrong { inner: [usize::from(number), place, column], sources, ..Wrong::default() }
+            }
+        }
+    }
+
+    /// All numbers up to the count of the sources.
+    fn head(&self) -> Vec<usize> {
+        [&[self.line, self.at], &self.inner[..], &[self.sources.len()]].concat()
+    }
+
+    fn sum(&self) -> u64 {
+        [self.head(), places(&self.sources, 480)].concat().into_iter().fold(0, rolled)
+    }
+}
+
+/// A correction that is taken, the one that relies on it, and the source; zeros
+/// for one that is wanted.
+fn triple(reason: &Reason) -> [usize; 3] {
+    match reason.why {
+        Why::Wanted => [reason.correction, 0, 0],
+        Why::For { correction, source } => [reason.correction, correction, source],
+    }
+}
+
+/// The check sum of all reasons, and of what is wrong where there are none.
+fn explained_sum(triples: &[[usize; 3]], wrong: &Wrong) -> u64 {
+    let column = |which: usize| {
+        let numbers: Vec<usize> = triples.iter().map(|triple| triple[which]).collect();
+        places(&numbers, 200)
     };
-    [places(&taken, 200), places(&sources, 480)].concat().into_iter().fold(0, rolled)
+    [vec![triples.len()], column(0), column(1), column(2)].concat().into_iter().fold(wrong.sum(), rolled)
 }
 
 fn verdict<T>(answer: &Result<T, Refusal>) -> String {
@@ -73,23 +129,40 @@ fn shown(numbers: impl IntoIterator<Item = usize>) -> String {
     numbers.into_iter().map(|number| format!("\t{number}")).collect()
 }
 
-/// The lines of one case: what checking the log says; what picking says, with
-/// the corrections taken and the records' sources; what making the new file
-/// says; check sums of both answers by value and of the lent buffer; and the
-/// length and the check sum of some lines of the new file.
+/// The lines of one case: what checking the log says, and what is wrong with it;
+/// what picking says, with the corrections taken and the records' sources; what
+/// explaining the pick says, with the reasons; what making the new file says;
+/// check sums of the answers by value and of the lent buffer; and the length and
+/// the check sum of some lines of the new file.
 pub(crate) fn answer(number: usize, case: &Case) -> String {
     let Case { frozen, log, wanted, room } = case;
     let checked = check_log(frozen, log);
+    let wrong = Wrong::of(frozen, log);
     let picked = pick(frozen, log, wanted);
     let made = new_file(frozen, log, wanted, *room);
     let counts = picked.as_ref().map_or(String::new(), |picked| {
         let counts = [picked.taken.len(), picked.sources.len()];
         shown(counts.iter().chain(&picked.taken).chain(&picked.sources).copied())
     });
+    let explained = reasons(frozen, log, wanted);
+    let triples: Vec<[usize; 3]> = explained.iter().flatten().map(triple).collect();
+    let whys =
+        explained.as_ref().map_or(String::new(), |_| shown([vec![triples.len()], triples.concat()].concat()));
+    // A wanted number that no correction has comes before what is wrong with any of them.
+    let wrong_explained = match explained {
+        Err(Refusal { number: 12, .. }) => Wrong::default(),
+        _ => Wrong::of(frozen, log),
+    };
     let mut lent = made.clone().unwrap_or_default();
     lent.resize(*room, 0);
     let accepted = picked.as_ref().ok();
-    let sums = [answer_sum(accepted), answer_sum(accepted.filter(|_| made.is_ok())), sum(&lent)];
+    let sums = [
+        answer_sum(accepted),
+        answer_sum(accepted.filter(|_| made.is_ok())),
+        sum(&lent),
+        wrong.sum(),
+        explained_sum(&triples, &wrong_explained),
+    ];
     let records: &[&[u8]] = accepted.map_or(&[], |picked| &picked.records);
     let line = |n: usize| n.checked_sub(1).and_then(|at| records.get(at)).copied().unwrap_or_default();
     let (half, last) = (records.len().div_ceil(2), records.len());
@@ -98,9 +171,11 @@ pub(crate) fn answer(number: usize, case: &Case) -> String {
     let asked = [0, 1, half, last, last + 1, usize::MAX].map(line);
     let lines = [&asked[..], &[&[]], &[half, last + 1].map(line)].concat();
     format!(
-        "case\t{number}\t{}\npick\t{}{counts}\nfile\t{}\nsums{}\nlines{}\n",
+        "case\t{number}\t{}\nfails{}\npick\t{}{counts}\nwhy\t{}{whys}\nfile\t{}\nsums{}\nlines{}\n",
         verdict(&checked),
+        shown([wrong.head(), wrong.sources.clone()].concat()),
         verdict(&picked),
+        verdict(&explained),
         verdict(&made),
         shown(sums.map(|sum| sum as usize)),
         shown(lines.iter().flat_map(|line| [line.len(), sum(line) as usize])),

@@ -1,10 +1,10 @@
 //! The instructions make the set of picks, the requirement's own case, and what
 //! holds of every accepted pick.
 
-use std::collections::{BTreeMap, HashSet};
+use std::collections::{BTreeMap, BTreeSet, HashSet};
 
 use reference::file::{check, LINE};
-use reference::pick::{check_log, new_file, pick, ROOM};
+use reference::pick::{check_log, failing, new_file, pick, reasons, Cause, Reason, Why, IN_LOG, ROOM};
 use reference::pick_vectors::{made_by, stored_files};
 use reference::picks::{all, groups, Case};
 use reference::{cases, Refusal};
@@ -73,6 +73,90 @@ fn the_set_meets_every_refusal_and_acceptance() {
     }
     assert_eq!(numbers, (0..=14).collect());
     assert_eq!(routes, (3..=8).collect());
+}
+
+/// Whether the line of the log that begins here is the first of its correction.
+fn is_first(log: &[u8], start: usize) -> bool {
+    let before = log[..start].split_inclusive(|byte| *byte == b'\n').last();
+    before.is_some_and(|line| line.starts_with(b"C"))
+}
+
+/// What a log that fails does so by.
+fn failure_kind(log: &[u8], cause: &Cause) -> &'static str {
+    match cause {
+        Cause::Line(line) => {
+            let before = log.split_inclusive(|byte| *byte == b'\n').take(line - 1);
+            match is_first(log, before.map(<[u8]>::len).sum()) {
+                true => "10 on the first line",
+                false => "10 on a later line",
+            }
+        }
+        Cause::Route { sources, refusal, .. } => match sources.get(refusal.place - 1) {
+            Some(IN_LOG..) => "11 at a record of the log",
+            Some(_) => "11 at a record of the file",
+            None => {
+                assert_eq!((refusal.number, refusal.place), (6, sources.len() + 1));
+                "11 with 6 past the route's end"
+            }
+        },
+    }
+}
+
+/// What corrections are taken by.
+fn reason_kinds(log: &[u8], reasons: &[Reason]) -> BTreeSet<&'static str> {
+    let corrections = touched(log);
+    // On one of its routes the last one before it.
+    let relies = |later: usize, number: usize| {
+        corrections[later - 1].iter().any(|route| {
+            (1..later).rev().find(|earlier| corrections[earlier - 1].contains(route)) == Some(number)
+        })
+    };
+    let is_wanted =
+        |number: usize| reasons.iter().any(|reason| reason.correction == number && reason.why == Why::Wanted);
+    let mut kinds = BTreeSet::new();
+    for Reason { correction: number, why } in reasons {
+        let by = reasons.iter().filter(|other| relies(other.correction, *number)).count();
+        let Why::For { correction, source } = why else {
+            kinds.insert(if by == 0 { "wanted" } else { "wanted and relied on" });
+            continue;
+        };
+        kinds.insert(if by == 1 { "for the only one" } else { "for the smallest of several" });
+        kinds.insert(if is_wanted(*correction) { "for a wanted one" } else { "for one that nobody wants" });
+        let first = is_first(log, source - IN_LOG - 2);
+        kinds.insert(if first { "for its first line" } else { "for a later line" });
+    }
+    kinds
+}
+
+#[test]
+fn the_set_meets_every_kind_of_failure_and_of_reason() {
+    let mut met = BTreeSet::new();
+    for Case { frozen, log, wanted, .. } in all() {
+        if let Some(failure) = failing(&frozen, &log) {
+            let hidden = matches!(pick(&frozen, &log, &wanted), Err(Refusal { number: 12, .. }));
+            met.insert(if hidden { "behind a 12" } else { failure_kind(&log, &failure.cause) });
+        }
+        if let Ok(reasons) = reasons(&frozen, &log, &wanted) {
+            met.extend(reason_kinds(&log, &reasons));
+        }
+    }
+    let kinds = [
+        "10 on the first line",
+        "10 on a later line",
+        "11 at a record of the log",
+        "11 at a record of the file",
+        "11 with 6 past the route's end",
+        "behind a 12",
+        "wanted",
+        "wanted and relied on",
+        "for the only one",
+        "for the smallest of several",
+        "for a wanted one",
+        "for one that nobody wants",
+        "for its first line",
+        "for a later line",
+    ];
+    assert_eq!(met, BTreeSet::from(kinds));
 }
 
 #[test]

@@ -1,9 +1,14 @@
-// What checking a log, picking and making the new file say of the stored cases, five lines for each:
+// What checking a log, picking, explaining the pick and making the new file say of the stored cases, seven lines for each:
 //   case, its number, and what checking the log with its frozen file says
+//   fails, what is wrong where that is 10 or 11, zeros otherwise: the line of the log, the offset of its record, the number, place and
+//         column of the route's own refusal, how many records the route has, and their sources
 //   pick, what picking says, and where that is yes how many corrections are taken and how many records there are, the numbers of the
 //         corrections, and the sources of the records
+//   why, what explaining the pick says, and where that is yes how many corrections are taken, and for each its number, the one that
+//         relies on it, and the source of the record by which that one does
 //   file, what making the new file says
-//   sums, the check sums of the answer to picking, of the answer to making the file, and of the lent buffer, which was full of 255
+//   sums, the check sums of the answer to picking, of the answer to making the file, of the lent buffer, which was full of 255, of what
+//         is wrong with the log, and of the answer to explaining, what is wrong among it
 //   lines, the length and the check sum of line 0, line 1, the middle line, the last line, the one behind it and the last number there
 //         is, all of one answer; of line 1 of the same answer with its verdict made a refusal; and of the middle line and the one behind
 //         the last, each picked anew
@@ -30,6 +35,9 @@ ghost use lib.ListN.{length};
 use libc::STDOUT_FILENO;
 use refusals::Refusal;
 use refusals::Verdict;
+use routes::Sources;
+use selection::Explained;
+use selection::Failure;
 use selection::Picked;
 
 fn print(text: &[u8]) {
@@ -41,14 +49,18 @@ fn print_number(n: u64) {
     io::print_decimal(STDOUT_FILENO, n);
 }
 
+fn print_refusal(r: Refusal) {
+    print_number(r.number as u64);
+    print_number(r.place as u64);
+    print_number(r.column as u64);
+}
+
 fn print_verdict(v: Verdict) {
     match v {
         Verdict::Accepted => print(b"\tyes"),
         Verdict::Refused(r) => {
             print(b"\tno");
-            print_number(r.number as u64);
-            print_number(r.place as u64);
-            print_number(r.column as u64);
+            print_refusal(r);
         }
     }
 }
@@ -75,12 +87,12 @@ fn sum_of(bytes: &[u8]) -> u64 {
     sum
 }
 
-// A check sum and the numbers of all corrections taken, those past the count too.
-fn with_taken(sum: u64, picked: Picked) -> u64 {
-    let mut rolling = rolled(sum, picked.count as u64);
+// A check sum and a number for each correction that may be taken, those past the count too.
+fn with_numbers(sum: u64, numbers: [u32; 200]) -> u64 {
+    let mut rolling = sum;
     let mut i: usize = 0;
     while i < 200 {
-        let number = picked.taken[i];
+        let number = numbers[i];
         rolling = rolled(rolling, number as u64);
         i += 1;
     }
@@ -88,8 +100,7 @@ fn with_taken(sum: u64, picked: Picked) -> u64 {
 }
 
 // A check sum and all sources, those past the count too.
-fn with_sources(sum: u64, picked: Picked) -> u64 {
-    let records = picked.records;
+fn with_sources(sum: u64, records: Sources) -> u64 {
     let mut rolling = rolled(sum, records.count as u64);
     let mut i: usize = 0;
     while i < 480 {
@@ -101,7 +112,29 @@ fn with_sources(sum: u64, picked: Picked) -> u64 {
 }
 
 fn answer_sum(picked: Picked) -> u64 {
-    with_sources(with_taken(0, picked), picked)
+    let taken = picked.taken;
+    let records = picked.records;
+    with_sources(with_numbers(rolled(0, picked.count as u64), taken), records)
+}
+
+// The check sum of all that is said to be wrong.
+fn failure_sum(failure: Failure) -> u64 {
+    let fault = failure.fault;
+    let inner = fault.inner;
+    let route = fault.route;
+    let line = rolled(rolled(0, failure.line as u64), fault.at as u64);
+    let number = rolled(line, inner.number as u64);
+    let refusal = rolled(rolled(number, inner.place as u64), inner.column as u64);
+    with_sources(refusal, route)
+}
+
+fn explained_sum(explained: Explained) -> u64 {
+    let failure = explained.failure;
+    let taken = explained.taken;
+    let relying = explained.relying;
+    let source = explained.source;
+    let count = rolled(failure_sum(failure), explained.count as u64);
+    with_numbers(with_numbers(with_numbers(count, taken), relying), source)
 }
 
 // ---- one case
@@ -120,8 +153,7 @@ fn print_taken(picked: Picked, n: usize) {
 }
 
 // The first n sources.
-fn print_sources(picked: Picked, n: usize) {
-    let records = picked.records;
+fn print_sources(records: Sources, n: usize) {
     let mut i: usize = 0;
     while i < 480 {
         if n <= i {
@@ -142,7 +174,49 @@ fn print_picked(picked: Picked) {
             print_number(picked.count as u64);
             print_number(records.count as u64);
             print_taken(picked, picked.count);
-            print_sources(picked, records.count);
+            print_sources(records, records.count);
+        }
+        Verdict::Refused(_) => {}
+    }
+}
+
+// What is wrong with a log.
+fn print_failure(failure: Failure) {
+    let fault = failure.fault;
+    let inner = fault.inner;
+    let route = fault.route;
+    print_number(failure.line as u64);
+    print_number(fault.at as u64);
+    print_refusal(inner);
+    print_number(route.count as u64);
+    print_sources(route, route.count);
+}
+
+// The first n of the reasons.
+fn print_reasons(explained: Explained, n: usize) {
+    let mut i: usize = 0;
+    while i < 200 {
+        if n <= i {
+            return;
+        }
+        let number = explained.taken[i];
+        let relying = explained.relying[i];
+        let source = explained.source[i];
+        print_number(number as u64);
+        print_number(relying as u64);
+        print_number(source as u64);
+        i += 1;
+    }
+}
+
+fn print_explained(explained: Explained) {
+    let failure = explained.failure;
+    let verdict = failure.verdict;
+    print_verdict(verdict);
+    match verdict {
+        Verdict::Accepted => {
+            print_number(explained.count as u64);
+            print_reasons(explained, explained.count);
         }
         Verdict::Refused(_) => {}
     }
@@ -199,9 +273,15 @@ fn print_case<'a>(number: usize, frozen: &'a [u8], log: &'a [u8], wanted: &[u32]
     print(b"case");
     print_number(number as u64);
     print_verdict(selection::check_log(frozen, log));
+    print(b"\nfails");
+    let failure = selection::failing(frozen, log);
+    print_failure(failure);
     print(b"\npick");
     let picked = selection::pick(frozen, log, wanted);
     print_picked(picked);
+    print(b"\nwhy");
+    let explained = selection::reasons(frozen, log, wanted);
+    print_explained(explained);
     print(b"\nfile");
     fill(out);
     let made = selection::new_file(frozen, log, wanted, out);
@@ -211,6 +291,8 @@ fn print_case<'a>(number: usize, frozen: &'a [u8], log: &'a [u8], wanted: &[u32]
     print_number(answer_sum(picked));
     print_number(answer_sum(made));
     print_number(sum_of(out));
+    print_number(failure_sum(failure));
+    print_number(explained_sum(explained));
     print(b"\nlines");
     print_lines(frozen, log, wanted, picked);
     print(b"\n");

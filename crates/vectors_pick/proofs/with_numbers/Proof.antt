@@ -1,17 +1,14 @@
 -- Each turn passes a number. Assumes nothing.
 use Prim.Native.Nat.{_≤_, _-_}
 use borrow.Author.Needs.{needs}
-use Rattle.vectors_pick.proofs.with_taken.Statement.{statement}
-use Rattle.vectors_pick.proofs.with_taken.Tie as tie
+use Rattle.vectors_pick.proofs.with_numbers.Statement.{statement}
+use Rattle.vectors_pick.proofs.with_numbers.Tie as tie
 
 abbrev Inv-loop : tie.InvT-loop
-Inv-loop sum picked rolling₀ i₀ rolling i = i ≤ 200
+Inv-loop sum numbers rolling₀ i₀ rolling i = i ≤ 200
 
 abbrev μ-loop : tie.MeasureT-loop
-μ-loop sum picked rolling₀ i₀ rolling i = 200 - i
-
-rolled-requires : tie.Need-rolled-requires Inv-loop μ-loop
-rolled-requires c κs = search needs
+μ-loop sum numbers rolling₀ i₀ rolling i = 200 - i
 
 loop-holds : tie.Need-loop-holds Inv-loop μ-loop
 loop-holds c = search needs
@@ -19,14 +16,14 @@ loop-holds c = search needs
 mul-number : tie.Need-mul-number Inv-loop μ-loop
 mul-number c = search needs
 
-element-copy-out-number : tie.Need-element-copy-out-number Inv-loop μ-loop
-element-copy-out-number c = search needs
+array-read-number : tie.Need-array-read-number Inv-loop μ-loop
+array-read-number c = search needs
 
 cast-rolled : tie.Need-cast-rolled Inv-loop μ-loop
 cast-rolled c = search needs
 
-rolled-requires-2 : tie.Need-rolled-requires-2 Inv-loop μ-loop
-rolled-requires-2 c κs = search needs
+rolled-requires : tie.Need-rolled-requires Inv-loop μ-loop
+rolled-requires c κs = search needs
 
 add-i : tie.Need-add-i Inv-loop μ-loop
 add-i c = search needs
@@ -40,18 +37,17 @@ loop-again c = search needs
 returns : tie.Need-returns Inv-loop μ-loop
 returns c = search needs
 
-pub with-taken-spec : {M : Type 1} → statement M
-with-taken-spec =
+pub with-numbers-spec : {M : Type 1} → statement M
+with-numbers-spec =
     tie.close
     (tie.spec
     Inv-loop
     μ-loop
-    rolled-requires
     loop-holds
     mul-number
-    element-copy-out-number
+    array-read-number
     cast-rolled
-    rolled-requires-2
+    rolled-requires
     add-i
     loop-less
     loop-again
