@@ -12,6 +12,7 @@ use lib.ListN.{length, getD, length-append, length-map, List·getD-append}
 use lib.Seq.{getD-append-add}
 use borrow.Author.Tests.{eqb-true, eq-eqb, ltb-true, ltb-false}
 use Rattle.slices.proofs.Cases.{split, and-left, and-right, both}
+use Rattle.slices.proofs.PartLaws.{member-iff}
 use Rattle.refusals.specs.declared.Refusal.{Refusal}
 use Rattle.refusals.specs.declared.Verdict.{Verdict}
 use Rattle.refusals.specs.declared.Verdict.the-variants.{Accepted, Refused}
@@ -30,11 +31,10 @@ use Rattle.selection.specs.Demand.{TakenFor, Explains, asWanted, byLine,
 use Rattle.selection.specs.Failing.{judgedThen, settled, settledFrom, settledOf}
 use Rattle.selection.specs.Pick.{opened, wantedStage, everything, wants, membersFrom, refusedBy, picked, judgedFirst, ranFirst, outcomeVerdict, carried, takenOf, pickBy, pickFrom, pickOf}
 use Rattle.selection.specs.Reasons.{Reason, relyingOf, reliesOn, firstRelying, reasonOf, reasonsBy, unlessStopped, reasonsFrom, reasonsOf}
-use Rattle.selection.proofs.ExplainLaws.{members-between}
 use Rattle.selection.proofs.GroupLaws.{ByCorrection, read-by-correction, rising}
 use Rattle.selection.proofs.IndexLaws.{noLine, correction-at}
 use Rattle.selection.proofs.LastLaws.{routeIn}
-use Rattle.selection.proofs.MemberLaws.{members-few}
+use Rattle.selection.proofs.MemberLaws.{Member, members-few, members-are, is-member}
 use Rattle.selection.proofs.OpenedLaws.{legal-opened, said-opening}
 use Rattle.selection.proofs.PickSteps.{Whole, steps, whole-picks}
 use Rattle.selection.proofs.TakenLaws.{L, length-log, line, line-on}
@@ -191,44 +191,17 @@ module _ (f l : List ℕ) (n : ℕ) (es : List Entry) (b : ByCorrection n es) (w
           let (k, h, _, pass) = line-passes p (suc m) ρ u r in
           false≢true (sym (at-each f l T cs (suc p) es (found-none f l T cs (suc p) es q) k h) ∙ pass)))
 
-  -- ---- the corrections taken, in their order
-
-  members-in : (S : Numbers) (k m : ℕ) → Every (λ p. (k ≤ p) × (S p ≡ true)) (membersFrom S k m)
-  unfolding membersFrom
-  members-in S k zero = tt
-  members-in S k (suc m) =
-      let rest = wider (membersFrom S (k + 1) m) (members-in S (k + 1) m) in
-      split (S k) (λ t. rw t ((omega arith, t), rest)) (λ t. rw t rest)
-    where
-      wider : (xs : List ℕ) → Every (λ p. (k + 1 ≤ p) × (S p ≡ true)) xs → Every (λ p. (k ≤ p) × (S p ≡ true)) xs
-      wider [] h = tt
-      wider (x ∷ xs) h = ((omega (arith, h .0 .0), h .0 .1), wider xs (h .1))
-
-  members-has : (S : Numbers) (k m p : ℕ) → k ≤ p → p < k + m → S p ≡ true → List·Memᴰ p (membersFrom S k m)
-  unfolding membersFrom
-  members-has S k zero p h j t = absurd (omega arith)
-  members-has S k (suc m) p h j t = by (ltb k p) refl (members-has S (k + 1) m p)
-    where
-      put : (a : Bool) → List·Memᴰ p (membersFrom S (k + 1) m) → List·Memᴰ p (cond a (k ∷ membersFrom S (k + 1) m) (membersFrom S (k + 1) m))
-      put true x = List·Memᴰ·tail x
-      put false x = x
-
-      by : (a : Bool) → ltb k p ≡ a → (k + 1 ≤ p → p < k + 1 + m → S p ≡ true → List·Memᴰ p (membersFrom S (k + 1) m))
-          → List·Memᴰ p (cond (S k) (k ∷ membersFrom S (k + 1) m) (membersFrom S (k + 1) m))
-      by true a rest = let q = ltb-true k p a in put (S k) (rest (omega arith) (omega arith) t)
-      by false a rest = let q : p ≡ k = omega (arith, ltb-false k p a) in rw (sym (ap S q) ∙ t) (List·Memᴰ·head q)
-
   abbrev members : List ℕ
   members = membersFrom (takenOf f l n es ws) 1 n
 
-  explained-each : (ps : List ℕ) → Every (λ p. (1 ≤ p) × (T p ≡ true)) ps → Every (Explains f l ws cs es T) (map (reasonOf f l n es ws) ps)
+  explained-each : (ps : List ℕ) → Every (Member T 1 n) ps → Every (Explains f l ws cs es T) (map (reasonOf f l n es ws) ps)
   explained-each [] h = tt
   explained-each (zero ∷ ps) h = absurd (omega (arith, h .0 .0))
-  explained-each (suc p ∷ ps) h = (one-explained p (h .0 .1), explained-each ps (h .1))
+  explained-each (suc p ∷ ps) h = (one-explained p (h .0 .2), explained-each ps (h .1))
 
   pub all-so : Every (Explains f l ws cs es T) (reasonsBy f l n es ws)
   unfolding reasonsBy takenOf
-  all-so = explained-each members (members-in T 1 n)
+  all-so = explained-each members (members-are T 1 n)
 
   pub own-numbers : map (λ (r : Reason). r .correction) (reasonsBy f l n es ws) ≡ members
   unfolding reasonsBy reasonOf
@@ -262,7 +235,7 @@ module _ (f l : List ℕ) (n : ℕ) (es : List Entry) (b : ByCorrection n es) (w
   unfolding reasonsBy takenOf reasonOf
   own-step zero i j t = absurd (omega arith)
   own-step (suc p) i j t =
-      step (suc p) (reasonOf f l n es ws (suc p)) (one-explained p t) refl (given members (suc p) (members-has T 1 n (suc p) i (omega arith) t))
+      step (suc p) (reasonOf f l n es ws (suc p)) (one-explained p t) refl (given members (suc p) (member-iff (suc p) members .0 (is-member T 1 n (suc p) i (omega arith) ∙ t)))
 
   leads-from : (m p : ℕ) → n ≤ p + m → 1 ≤ p → p ≤ n → T p ≡ true → Leads ws (reasonsBy f l n es ws) p
   leads-from zero p h i j t = own-step p i j t (λ c up few _. absurd (omega arith))
@@ -270,11 +243,11 @@ module _ (f l : List ℕ) (n : ℕ) (es : List Entry) (b : ByCorrection n es) (w
 
   pub all-lead : Every (Leads ws (reasonsBy f l n es ws)) members
   unfolding takenOf
-  all-lead = by members (members-in T 1 n) (members-between T 1 n)
+  all-lead = by members (members-are T 1 n)
     where
-      by : (ps : List ℕ) → Every (λ p. (1 ≤ p) × (T p ≡ true)) ps → Every (λ p. (1 ≤ p) × (p < 1 + n)) ps → Every (Leads ws (reasonsBy f l n es ws)) ps
-      by [] h k = tt
-      by (p ∷ ps) h k = (leads-from n p (omega arith) (h .0 .0) (omega (arith, k .0 .1)) (h .0 .1), by ps (h .1) (k .1))
+      by : (ps : List ℕ) → Every (Member T 1 n) ps → Every (Leads ws (reasonsBy f l n es ws)) ps
+      by [] h = tt
+      by (p ∷ ps) h = (leads-from n p (omega arith) (h .0 .0) (omega (arith, h .0 .1)) (h .0 .2), by ps (h .1))
 
 -- ---- what is promised
 
@@ -337,7 +310,7 @@ module _ (f l : List ℕ) (n : ℕ) (es : List Entry) (b : ByCorrection n es) (w
   small _ (asWanted a) = omega arith
   small _ (byLine a w) = omega (arith, w .among, length-log f l n es b, b .few)
 
-  each-small : (ps : List ℕ) → Every (λ p. (1 ≤ p) × (p < 1 + n)) ps → Every (Explains f l ws (L f l n es b) es (closure procedures (L f l n es b) (wants ws))) (map (reasonOf f l n es ws) ps)
+  each-small : (ps : List ℕ) → Every (Member (takenOf f l n es ws) 1 n) ps → Every (Explains f l ws (L f l n es b) es (closure procedures (L f l n es b) (wants ws))) (map (reasonOf f l n es ws) ps)
       → Every Small (map (reasonOf f l n es ws) ps)
   unfolding reasonOf
   each-small [] h e = tt
@@ -347,7 +320,7 @@ module _ (f l : List ℕ) (n : ℕ) (es : List Entry) (b : ByCorrection n es) (w
   unfolding reasonsBy
   all-small = (
     omega (arith, length-map (membersFrom (takenOf f l n es ws) 1 n) (reasonOf f l n es ws), members-few (takenOf f l n es ws) 1 n, b .few),
-    each-small (membersFrom (takenOf f l n es ws) 1 n) (members-between (takenOf f l n es ws) 1 n) (all-so f l n es b ws),
+    each-small (membersFrom (takenOf f l n es ws) 1 n) (members-are (takenOf f l n es ws) 1 n) (all-so f l n es b ws),
   )
 
 -- There are no more than 200 reasons, and no number in them is larger.

@@ -46,11 +46,12 @@ use Rattle.selection.specs.Pick.{
   carried,
   takenOf,
   pickBy,
+  outcomeOf,
   pickFrom,
   pickOf,
   pickedAs,
 }
-use Rattle.selection.specs.Failing.{lineAt, failureWith, faultOf, failureAs, judgedThen, outcomeOf, failureOf, settled, settledFrom, settledOf}
+use Rattle.selection.specs.Failing.{lineAt, failureWith, faultOf, failureAs, judgedThen, failureOf, settled, settledFrom, settledOf}
 use Rattle.selection.specs.Reasons.{reasonsBy, unlessStopped, reasonsFrom, reasonsOf, reasonsWith, reasonsAs}
 use Rattle.selection.specs.declared.Explained.{Explained}
 use Rattle.selection.specs.declared.Failure.{Failure}

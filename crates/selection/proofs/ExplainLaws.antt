@@ -12,7 +12,7 @@ use lib.ListN.{length, getD, take, drop, set, replicate, length-map, length-set,
 use lib.Seq.{sets, drop-cons, getD-take, getD-set-same, getD-set-other, take-at, length-take-le}
 use borrow.Author.Tests.{eqb-true, eqb-false, eq-eqb}
 use Rattle.slices.specs.Part.{member, padded}
-use Rattle.slices.proofs.Cases.{split, or-left, or-right}
+use Rattle.slices.proofs.Cases.{or-left, or-right}
 use Rattle.slices.proofs.PartLaws.{one-less, zero-at}
 use Rattle.slices.proofs.WriteLaws.{stored-front}
 use Rattle.corrections.specs.Reading.{Entry}
@@ -32,6 +32,7 @@ use Rattle.selection.specs.declared.explaining.Naming.{Naming}
 use Rattle.selection.proofs.GroupLaws.{ByCorrection}
 use Rattle.selection.proofs.IndexLaws.{noLine, entry-at, correction-at}
 use Rattle.selection.proofs.LastLaws.{routeIn}
+use Rattle.selection.proofs.MemberLaws.{Member, members-are}
 use Rattle.selection.proofs.TakenLaws.{index, relied, L, count-lines, length-log, line}
 
 -- ---- the marks of the wanted numbers, of which those from k on are left
@@ -161,17 +162,6 @@ module _ (index : Index) (relied marks asked : List ℕ) (m : Members) where
 
 -- ---- the reasons of the definition
 
-pub members-between : (T : Numbers) (n m : ℕ) → Every (λ p. (n ≤ p) × (p < n + m)) (membersFrom T n m)
-unfolding membersFrom
-members-between T n zero = tt
-members-between T n (suc m) =
-    let rest = wider (membersFrom T (n + 1) m) (members-between T (n + 1) m) in
-    split (T n) (λ t. rw t ((omega arith, omega arith), rest)) (λ t. rw t rest)
-  where
-    wider : (xs : List ℕ) → Every (λ p. (n + 1 ≤ p) × (p < n + 1 + m)) xs → Every (λ p. (n ≤ p) × (p < n + suc m)) xs
-    wider [] h = tt
-    wider (x ∷ xs) h = ((omega (arith, h .0 .0), omega (arith, h .0 .1)), wider xs (h .1))
-
 module _ (f l : List ℕ) (n : ℕ) (es : List Entry) (b : ByCorrection n es) (ws marks asked : List ℕ)
     (t : (i : ℕ) → i < n → marked marks (1 + i) ≡ takenOf f l n es ws (1 + i)) (a : Asked ws asked) where
   abbrev T : Numbers
@@ -221,7 +211,7 @@ module _ (f l : List ℕ) (n : ℕ) (es : List Entry) (b : ByCorrection n es) (w
       either true o = refl
       either false o = refl
 
-  over : (g : ℕ → ℕ) (h : Reason → ℕ) (ps : List ℕ) → Every (λ p. (1 ≤ p) × (p < 1 + n)) ps → ((p : ℕ) → p < 201 → g p ≡ h (reasonOf f l n es ws p))
+  over : (g : ℕ → ℕ) (h : Reason → ℕ) (ps : List ℕ) → Every (Member T 1 n) ps → ((p : ℕ) → p < 201 → g p ≡ h (reasonOf f l n es ws p))
       → map g ps ≡ map h (map (reasonOf f l n es ws) ps)
   over g h [] e q = refl
   over g h (p ∷ ps) e q = ap₂ (λ (x : ℕ) (xs : List ℕ). x ∷ xs) (q p (omega (arith, e .0 .1, b .few))) (over g h ps (e .1) q)
@@ -231,7 +221,7 @@ module _ (f l : List ℕ) (n : ℕ) (es : List Entry) (b : ByCorrection n es) (w
   unfolding namedWith reasonsWith reasonsBy membersAs reasonOf
   named-reasons failure m e =
       let ps = membersFrom T 1 n in
-      let w = members-between T 1 n in
+      let w = members-are T 1 n in
       let out : take (m .count) (m .at) ≡ ps = ap (λ (x : Members). take (x .count) (x .at)) e ∙ take-at ps _ (length ps) refl in
       let own : ps ≡ map (λ (r : Reason). r .correction) (map (reasonOf f l n es ws) ps) = sym (map-id ps) ∙ over (λ p. p) (λ (r : Reason). r .correction) ps w (λ p h. refl) in
       let fills : (g : ℕ → ℕ) (h : Reason → ℕ) → ((p : ℕ) → p < 201 → g p ≡ h (reasonOf f l n es ws p)) → padded 200 (map g (take (m .count) (m .at))) ≡ padded 200 (map h (map (reasonOf f l n es ws) ps)) =

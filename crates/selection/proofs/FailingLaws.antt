@@ -10,12 +10,13 @@ use lib.ListN.{length, getD, take, drop, length-take, drop-of-length-le}
 use lib.Seq.{drop-cons, getD-take}
 use Rattle.refusals.specs.declared.Refusal.{Refusal}
 use Rattle.refusals.specs.declared.Verdict.the-variants.{Refused}
+use Rattle.refusals.proofs.VerdictLaws.{never, same-refusal}
 use Rattle.corrections.specs.Reading.{Reading, refused, said}
-use Rattle.applying.specs.Correct.{Wrong, noMore, stopped, faultAs}
+use Rattle.applying.specs.Correct.{Wrong, noMore, Outcome, stopped, reached, faultAs}
 use Rattle.applying.specs.declared.Fault.{Fault}
-use Rattle.selection.specs.Pick.{opened, everything, logJudged, logVerdict, outcomeVerdict}
+use Rattle.selection.specs.Pick.{opened, everything, outcomeVerdict, outcomeOf, logVerdict}
 use Rattle.selection.specs.Demand.{Told, before, within}
-use Rattle.selection.specs.Failing.{lineFeeds, lineAt, failureAs, outcomeOf, failureOf}
+use Rattle.selection.specs.Failing.{lineFeeds, lineAt, failureAs, failureOf}
 use Rattle.selection.proofs.OpenedLaws.{said-opening, carried-wrong}
 
 -- ---- the line of an offset
@@ -92,16 +93,25 @@ no-more log r e = rw e
 -- Where a log fails is told with the verdict that the log's check gives.
 pub same-verdict : (frozen log : List ℕ) → failureOf frozen log .verdict ≡ logVerdict frozen log
 unfolding failureOf failureAs logVerdict
-same-verdict frozen log = by (opened frozen log)
-  where
-    by : (r : Reading) → outcomeVerdict (outcomeOf frozen log r) ≡ logJudged frozen log r
-    by (refused r) = refl
-    by (said n es) = refl
+same-verdict frozen log = refl
 
--- What is told of a log that fails is so of its first correction that does; and of one that is refused before that, no more is told.
-pub tells : (frozen log : List ℕ) (r : Refusal) (w : Wrong) → outcomeOf frozen log (opened frozen log) ≡ stopped r w → Told frozen log r w
-tells frozen log r w e = by (opened frozen log) refl e
+told-of : (frozen log : List ℕ) (r : Refusal) (w : Wrong) → outcomeOf frozen log (opened frozen log) ≡ stopped r w → Told frozen log r w
+told-of frozen log r w e = by (opened frozen log) refl e
   where
     by : (o : Reading) → opened frozen log ≡ o → outcomeOf frozen log o ≡ stopped r w → Told frozen log r w
     by (refused q) p h = let same : (q ≡ r) × (noMore ≡ w) = (cc, cc) in subst (Told frozen log r) (same .1) (before (p ∙ ap refused (same .0)))
     by (said n es) p h = within p (carried-wrong frozen log (said-opening frozen log n es p) everything (λ i. refl) r w h)
+
+-- Of every log that is refused the answer is its refusal with what is wrong, and that is so of its first correction that fails; where it is
+-- refused before a correction is applied, no more is told.
+pub tells : (frozen log : List ℕ) (r : Refusal) → logVerdict frozen log ≡ Refused r
+    → (w : Wrong) × (failureOf frozen log ≡ failureAs log (stopped r w)) × Told frozen log r w
+unfolding failureOf logVerdict
+tells frozen log r e = by (outcomeOf frozen log (opened frozen log)) refl e
+  where
+    by : (o : Outcome) → outcomeOf frozen log (opened frozen log) ≡ o → outcomeVerdict o ≡ Refused r
+        → (w : Wrong) × (failureAs log (outcomeOf frozen log (opened frozen log)) ≡ failureAs log (stopped r w)) × Told frozen log r w
+    by (stopped q w) p h =
+        let same : outcomeOf frozen log (opened frozen log) ≡ stopped r w = p ∙ ap (λ (x : Refusal). stopped x w) (same-refusal h) in
+        (w, ap (failureAs log) same, told-of frozen log r w same)
+    by (reached xs) p h = absurd (never (sym h))

@@ -7,12 +7,16 @@ use Prim.Native.Nat.{ℕ, zero, suc, _+_, _-_, _≤_, _<_}
 use native.Mathlib.Omega.{arith}
 use lib.ListN.{length, getD, set, take, replicate, length-append, length-map, length-take, List·getD-eq-default, List·getD-map}
 use lib.Seq.{getD-take}
+use lib.Dec.{eqb}
+use borrow.Author.Tests.{eqb-true, eqb-false, ne-eqb}
 use Rattle.slices.proofs.Cases.{split}
 use Rattle.slices.proofs.PartLaws.{one-less, getD-any}
 use Rattle.slices.proofs.WriteLaws.{sets-append, stored-front}
 use Rattle.refusals.specs.declared.Refusal.{Refusal}
 use Rattle.refusals.specs.declared.Verdict.the-variants.{Accepted, Refused}
 use Rattle.history.specs.Sets.{Numbers}
+use Rattle.slices.specs.Part.{member}
+use Rattle.routes.specs.Places.{Every}
 use Rattle.routes.specs.Sources.{recordAt, inUse}
 use Rattle.routes.specs.declared.Sources.{Sources}
 use Rattle.selection.specs.Pick.{membersFrom, withMembers, membersAs, lineIn, lineOfPick}
@@ -76,6 +80,44 @@ grown-few found next n b e h = subst (λ (m : Members). m .count ≤ n + 1) (sym
     by : (x : Bool) → withMembers found (cond x ((n + 1) ∷ []) []) .count ≤ n + 1
     by true = omega arith
     by false = omega arith
+
+-- ---- the members themselves
+
+-- a number is among the members of a set exactly when it is in the set, where it is one of those asked for
+no-member : (T : Numbers) (n m k : ℕ) → k < n → member k (membersFrom T n m) ≡ false
+unfolding member membersFrom
+no-member T n zero k h = refl
+no-member T n (suc m) k h =
+    split (T n) (λ t. rw (t, ne-eqb n k (λ (z : n ≡ k). omega arith)) (no-member T (n + 1) m k (omega arith)))
+    (λ t. rw t (no-member T (n + 1) m k (omega arith)))
+
+pub is-member : (T : Numbers) (n m k : ℕ) → n ≤ k → k < n + m → member k (membersFrom T n m) ≡ T k
+unfolding member membersFrom
+is-member T n zero k h j = absurd (omega arith)
+is-member T n (suc m) k h j =
+    split (eqb n k)
+    (λ e.
+    let q : n ≡ k = eqb-true n k e in
+    split (T n) (λ t. rw (t, e) (sym (ap T (sym q) ∙ t))) (λ t. rw t (no-member T (n + 1) m k (omega arith) ∙ sym (ap T (sym q) ∙ t))))
+    (λ e.
+    let d : n ≡ k → ⊥ = eqb-false n k e in
+    let ih : member k (membersFrom T (n + 1) m) ≡ T k = is-member T (n + 1) m k (omega arith) (omega arith) in
+    split (T n) (λ t. rw (t, e) ih) (λ t. rw t ih))
+
+-- each is a number of the set, and one of those that were asked about
+abbrev pub Member : Numbers → (n m p : ℕ) → Type 0
+Member T n m p = (n ≤ p) × (p < n + m) × (T p ≡ true)
+
+pub members-are : (T : Numbers) (n m : ℕ) → Every (Member T n m) (membersFrom T n m)
+unfolding membersFrom
+members-are T n zero = tt
+members-are T n (suc m) =
+    let rest = wider (membersFrom T (n + 1) m) (members-are T (n + 1) m) in
+    split (T n) (λ t. rw t ((omega arith, omega arith, t), rest)) (λ t. rw t rest)
+  where
+    wider : (xs : List ℕ) → Every (Member T (n + 1) m) xs → Every (Member T n (suc m)) xs
+    wider [] h = tt
+    wider (x ∷ xs) h = ((omega (arith, h .0 .0), omega (arith, h .0 .1), h .0 .2), wider xs (h .1))
 
 -- ---- the record of a line
 

@@ -7,10 +7,8 @@ use mathlib.Core.Bool.{Bool, true, false, cond}
 use mathlib.Core.List.{List, [], _∷_, _++_, map}
 use Prim.Native.Nat.{ℕ, zero, suc, _+_, _*_, _≤_, _<_}
 use native.Mathlib.Omega.{arith}
-use lib.Dec.{eqb}
 use lib.ListN.{length, getD, List·getD-map}
 use lib.Seq.{take-at}
-use borrow.Author.Tests.{eqb-true, eqb-false, ne-eqb}
 use Rattle.slices.specs.Part.{member}
 use Rattle.slices.specs.Order.{order}
 use Rattle.slices.specs.declared.Ordering.the-variants.{Less}
@@ -35,6 +33,7 @@ use Rattle.applying.proofs.LastPut.{same-last, handed-back}
 use Rattle.selection.specs.Pick.{membersFrom, picked, carried, takenOf, pickOf}
 use Rattle.selection.proofs.GroupLaws.{AllOf, Grouped, flat, by-groups, said-same, read-by-correction}
 use Rattle.selection.proofs.OpenedLaws.{own-sources, frozen-accepted, Opening, legal-opened}
+use Rattle.selection.proofs.MemberLaws.{is-member}
 use Rattle.selection.proofs.PickSteps.{steps}
 
 -- ---- the frozen file's own sources
@@ -75,27 +74,6 @@ letters-in : (begun at : ℕ) (cs : List (List Change)) → Every (Every Lettere
 unfolding groups
 letters-in begun at [] = tt
 letters-in begun at (c ∷ cs) = (letters-from (begun + 1) _ c, letters-in (begun + 1) _ cs)
-
--- a number is among the members of a set exactly when it is in the set, where it is one of those asked for
-no-member : (T : Numbers) (n m k : ℕ) → k < n → member k (membersFrom T n m) ≡ false
-unfolding member membersFrom
-no-member T n zero k h = refl
-no-member T n (suc m) k h =
-    split (T n) (λ t. rw (t, ne-eqb n k (λ (z : n ≡ k). omega arith)) (no-member T (n + 1) m k (omega arith)))
-    (λ t. rw t (no-member T (n + 1) m k (omega arith)))
-
-is-member : (T : Numbers) (n m k : ℕ) → n ≤ k → k < n + m → member k (membersFrom T n m) ≡ T k
-unfolding member membersFrom
-is-member T n zero k h j = absurd (omega arith)
-is-member T n (suc m) k h j =
-    split (eqb n k)
-    (λ e.
-    let q : n ≡ k = eqb-true n k e in
-    split (T n) (λ t. rw (t, e) (sym (ap T (sym q) ∙ t))) (λ t. rw t (no-member T (n + 1) m k (omega arith) ∙ sym (ap T (sym q) ∙ t))))
-    (λ e.
-    let d : n ≡ k → ⊥ = eqb-false n k e in
-    let ih : member k (membersFrom T (n + 1) m) ≡ T k = is-member T (n + 1) m k (omega arith) (omega arith) in
-    split (T n) (λ t. rw (t, e) ih) (λ t. rw t ih))
 
 module _ (taken : List ℕ) where
   taken-append : (es fs : List Entry) → linesTaken taken (es ++ fs) ≡ linesTaken taken es ++ linesTaken taken fs

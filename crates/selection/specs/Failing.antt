@@ -10,7 +10,7 @@ use Rattle.refusals.specs.declared.Verdict.the-variants.{Accepted, Refused}
 use Rattle.corrections.specs.Reading.{Entry, Reading, refused, said}
 use Rattle.applying.specs.Correct.{noMore, Outcome, stopped, reached, faultAs}
 use Rattle.applying.specs.declared.Fault.{Fault}
-use Rattle.selection.specs.Pick.{opened, wantedStage, everything, carried, outcomeVerdict}
+use Rattle.selection.specs.Pick.{opened, wantedStage, everything, outcomeVerdict, carried, outcomeOf}
 use Rattle.selection.specs.declared.Failure.{Failure}
 
 -- how many of some bytes are line feeds
@@ -39,14 +39,9 @@ judgedThen Accepted o = o
 judgedThen (Refused r) o = stopped r noMore
 
 module _ (frozen log : List ℕ) where
-  -- what the corrections of the whole log come to
-  abbrev pub outcomeOf : Reading → Outcome
-  outcomeOf (refused r) = stopped r noMore
-  outcomeOf (said n es) = carried frozen log everything n es
-
   -- where a log fails over its frozen file
   unfoldable pub failureOf : Failure
-  failureOf = failureAs log (outcomeOf (opened frozen log))
+  failureOf = failureAs log (outcomeOf frozen log (opened frozen log))
 
   -- the same with the wanted numbers judged before the corrections
   unfoldable pub settled : (wanted : List ℕ) (n : ℕ) → List Entry → Outcome

@@ -20,7 +20,7 @@ use Rattle.routes.specs.InTurn.{inTurn}
 use Rattle.routes.specs.Legal.{lines}
 use Rattle.routes.specs.Sources.{recordAt, records, sourcesOf, inUse, sourcesFor}
 use Rattle.routes.specs.declared.Sources.{Sources}
-use Rattle.applying.specs.Correct.{Outcome, stopped, reached}
+use Rattle.applying.specs.Correct.{noMore, Outcome, stopped, reached}
 use Rattle.applying.specs.Run.{byCorrection, ran}
 use Rattle.applying.specs.Procedures.{procedures, operations}
 use Rattle.selection.specs.declared.Picked.{Picked}
@@ -110,10 +110,13 @@ module _ (frozen log : List ℕ) where
   abbrev pub pickBy : Numbers → (n : ℕ) → List Entry → Pick
   pickBy T n es = ranFirst (carried T n es) (picked (membersFrom T 1 n))
 
-  -- the whole log, "then correction by correction 10, 11"
+  -- what the whole log comes to, once it is read: "then correction by correction 10, 11"
+  abbrev pub outcomeOf : Reading → Outcome
+  outcomeOf (refused r) = stopped r noMore
+  outcomeOf (said n es) = carried everything n es
+
   abbrev pub logJudged : Reading → Verdict
-  logJudged (refused r) = Refused r
-  logJudged (said n es) = outcomeVerdict (carried everything n es)
+  logJudged r = outcomeVerdict (outcomeOf r)
 
   -- "checking one keeps this order without 14 and 12"
   unfoldable pub logVerdict : Verdict

@@ -44,9 +44,9 @@ use Rattle.applying.specs.Run.{byCorrection}
 use Rattle.applying.specs.Procedures.{procedures, logOf}
 use Rattle.applying.specs.Origin.{linesTaken, HandedBack}
 use Rattle.applying.specs.Correct.{Wrong, stopped}
-use Rattle.selection.specs.Failing.{outcomeOf, failureOf, settledOf}
+use Rattle.selection.specs.Failing.{failureAs, failureOf, settledOf}
 use Rattle.selection.specs.Reasons.{reasonsOf}
-use Rattle.selection.specs.Pick.{opened, wantedStage, everything, refusedBy, picked, outcomeVerdict, carried, logVerdict, pickOf, newBytes, filePick}
+use Rattle.selection.specs.Pick.{wantedStage, everything, refusedBy, picked, outcomeVerdict, carried, logVerdict, pickOf, newBytes, filePick}
 use Rattle.selection.specs.Demand.{Demanded, Told, AllExplained}
 use Rattle.selection.proofs.Because.{picked-explained, refused-unexplained}
 use Rattle.selection.proofs.Demand.{picked-demand, pick-iff, log-runs}
@@ -209,9 +209,9 @@ pub sources-of-a-pick : (frozen log wanted taken sources : List ℕ) → pickOf 
     × Every (HandedBack frozen log (linesTaken taken lines)) sources
 sources-of-a-pick = sources-handed
 
--- Why each correction is taken. Where the pick stands, there is a reason for each of its numbers: it is wanted, or the smallest correction
--- taken relies on it directly that does, by the first line that is on such a route; and following the reasons leads by rising numbers to a
--- wanted one. Where the pick is refused, it is refused by the same, and no reason is given.
+-- Why each correction is taken. Where the pick stands, there is a reason for each of its numbers: it is wanted, or the smallest of the corrections
+-- taken that rely on it directly is named, by its first line on a route by which it does; and following the reasons leads by rising numbers
+-- to a wanted one. Where the pick is refused, they are refused by the same, and none is given.
 pub reasons-are-so : (frozen log wanted taken sources : List ℕ) → pickOf frozen log wanted ≡ picked taken sources
     → (outcomeVerdict (settledOf frozen log wanted) ≡ Accepted) × AllExplained frozen log wanted taken (reasonsOf frozen log wanted)
 reasons-are-so = picked-explained
@@ -225,5 +225,6 @@ reasons-refused = refused-unexplained
 pub failing-verdict : (frozen log : List ℕ) → failureOf frozen log .verdict ≡ logVerdict frozen log
 failing-verdict = same-verdict
 
-pub failing-told : (frozen log : List ℕ) (r : Refusal) (w : Wrong) → outcomeOf frozen log (opened frozen log) ≡ stopped r w → Told frozen log r w
+pub failing-told : (frozen log : List ℕ) (r : Refusal) → logVerdict frozen log ≡ Refused r
+    → (w : Wrong) × (failureOf frozen log ≡ failureAs log (stopped r w)) × Told frozen log r w
 failing-told = tells

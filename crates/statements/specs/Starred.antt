@@ -1,6 +1,7 @@
 -- The cases that paper 01 stars, as one table: a record read alone and what is said of it, a file and its verdict, and a frozen file, a
--- log and wanted numbers with the answer of the pick; and beside what the paper stars, why corrections are taken and where a log fails. What a row means is said by the definitions that the contracts of `parts::read`,
--- `routes::check`, `selection::pick`, `reasons` and `failing` cite: `readingOf`, `fileVerdict`, `pickOf`, `reasonsOf` and `failureOf`. That every row is met is `cases`, in proofs/Starred.
+-- log and wanted numbers with the answer of the pick; and beside what the paper stars, why corrections are taken and where a log fails. What
+-- a row means is said by the definitions that the contracts of `parts::read`, `routes::check`, `selection::pick`, `reasons` and `failing` cite:
+-- `readingOf`, `fileVerdict`, `pickOf`, `reasonsOf` and `failureOf`. That every row is met is `cases`, in proofs/Starred.
 -- Assumes nothing.
 use mathlib.Core.Path.{_≡_}
 use mathlib.Core.List.{List, [], _∷_, _++_, map}
