@@ -21,9 +21,10 @@ use Rattle.routes.specs.Sources.{inUse, sourcesIn, sourcesFor}
 use Rattle.routes.specs.declared.Sources.{Sources}
 use Rattle.history.specs.Sets.{Numbers}
 use Rattle.applying.specs.Apply.{Within, entriesFrom}
-use Rattle.applying.specs.Correct.{noMore, Outcome, faultAs, Comes}
-use Rattle.applying.specs.Run.{byCorrection, ran}
-use Rattle.applying.specs.Bounds.{allWithin, boundStage, ranOver, refusedRun, ranAs}
+use Rattle.applying.specs.Correct.{noMore, faultAs, faultIn, Comes}
+use Rattle.applying.specs.Run.{byCorrection, ranBy}
+use Rattle.applying.specs.State.{held}
+use Rattle.applying.specs.Bounds.{allWithin, boundStage, ranOverBy, refusedRun, ranAs}
 use Rattle.applying.specs.declared.Fault.{Fault}
 use Rattle.applying.specs.declared.Ran.{Ran}
 use Rattle.applying.specs.declared.correct.Corrected.{Corrected}
@@ -31,9 +32,9 @@ use Rattle.applying.proofs.RunLaws.{came-refused, came-stands}
 
 -- ---- all sources that count
 
-pub all-in-use : (s : Sources) → sourcesIn s 0 (s .count) ≡ inUse s
+all-in-row : (row : List ℕ) (count : ℕ) → count ≤ 480 → sourcesIn (held 480 row) 0 count ≡ inUse (held count row)
 unfolding inUse
-all-in-use s = take-take (s .count) (s .count) (s .at) (omega arith)
+all-in-row row count h = take-take count 480 row h
 
 -- ---- the bounds
 
@@ -104,34 +105,33 @@ passes index state b = rw (le-leb (state .count) 480 (b .records), le-leb (index
 
 -- ---- the run
 
-module _ (f l : List ℕ) (T : Numbers) (index : Index) (state : Sources) {v : Verdict} (e : v ≡ boundStage index state) where
-  whole : Outcome
-  whole = ran f l T 1 (byCorrection 1 (index .corrections) (entriesFrom index 0 (index .count))) (inUse state)
-
-  pub run-unbounded : {r : Refusal} {x : Ran} {z : Fault} → v ≡ Refused r → x ≡ refusedRun r z → z ≡ faultAs noMore → x ≡ ranAs (ranOver f l T index state)
-  unfolding ranOver ranAs
+module _ (judging : Bool) (f l : List ℕ) (T : Numbers) (index : Index) (state : Sources) {v : Verdict} (e : v ≡ boundStage index state) where
+  pub run-unbounded : {r : Refusal} {x : Ran} {z : Fault} → v ≡ Refused r → x ≡ refusedRun r z → z ≡ faultAs noMore → x ≡ ranAs (ranOverBy judging f l T index state)
+  unfolding ranOverBy ranAs
   run-unbounded {r} q g n = g ∙ ap (refusedRun r) n ∙ rw (sym e ∙ q)
 
-  module _ (a : v ≡ Accepted) where
-    module _ (c : Corrected) (g : Comes c (ran f l T 1 (byCorrection 1 (index .corrections) (entriesFrom index 0 (index .count))) (inUse state))) where
-      pub run-refused : {r : Refusal} {x : Ran} → c .verdict ≡ Refused r → x ≡ refusedRun r (c .fault) → x ≡ ranAs (ranOver f l T index state)
-      unfolding ranOver ranAs
-      run-refused {r} q x =
-          let (w, o, z) = came-refused c _ g q in
-          x ∙ ap (refusedRun r) z ∙ rw (sym e ∙ a) (ap ranAs (sym o))
+  module _ (a : v ≡ Accepted) (c : Corrected) (row : List ℕ) (g : Comes c row (ranBy judging f l T 1 (byCorrection 1 (index .corrections) (entriesFrom index 0 (index .count))) (inUse state))) where
+    pub run-refused : {r : Refusal} {x : Ran} {z : Fault} → c .verdict ≡ Refused r → z ≡ faultIn (c .trouble) row → x ≡ refusedRun r z → x ≡ ranAs (ranOverBy judging f l T index state)
+    unfolding ranOverBy ranAs
+    run-refused {r} q y x =
+        let (w, o, a₁, b₁, z) = came-refused c row _ g q in
+        x ∙ ap (refusedRun r) (y ∙ z) ∙ rw (sym e ∙ a) (ap ranAs (sym o))
 
-      pub run-count : c .verdict ≡ Accepted → c .state .count ≤ 480
-      run-count q = came-stands c _ g q .1
+    pub trouble-within : {r : Refusal} → c .verdict ≡ Refused r → (c .trouble .from ≤ c .trouble .to) × (c .trouble .to ≤ 480)
+    trouble-within q = let (w, o, a₁, b₁, z) = came-refused c row _ g q in (a₁, b₁)
 
-      pub run-stands : {s : Sources} {z : Fault} → c .verdict ≡ Accepted → s ≡ sourcesFor (sourcesIn (c .state) 0 (c .state .count)) → z ≡ faultAs noMore
-          → record { verdict = Accepted; records = s; fault = z } ≡ ranAs (ranOver f l T index state)
-      unfolding ranOver ranAs
-      run-stands q x z =
-          ap₂ (λ (x : Sources) (y : Fault). record { verdict = Accepted; records = x; fault = y }) (x ∙ ap sourcesFor (all-in-use (c .state))) z
-          ∙ rw (sym e ∙ a) (ap ranAs (sym (came-stands c _ g q .0)))
+    pub run-count : c .verdict ≡ Accepted → c .count ≤ 480
+    run-count q = came-stands c row _ g q .1
+
+    pub run-stands : {s : Sources} {z : Fault} → c .verdict ≡ Accepted → s ≡ sourcesFor (sourcesIn (held 480 row) 0 (c .count)) → z ≡ faultAs noMore
+        → record { verdict = Accepted; records = s; fault = z } ≡ ranAs (ranOverBy judging f l T index state)
+    unfolding ranOverBy ranAs
+    run-stands q x z =
+        ap₂ (λ (x : Sources) (y : Fault). record { verdict = Accepted; records = x; fault = y }) (x ∙ ap sourcesFor (all-in-row row (c .count) (came-stands c row _ g q .1))) z
+        ∙ rw (sym e ∙ a) (ap ranAs (sym (came-stands c row _ g q .0)))
 
 -- over what a log and a file have, nothing is refused for its bounds
-pub ran-bound : (f l : List ℕ) (T : Numbers) (index : Index) (state : Sources) → Bound index state
-    → ranOver f l T index state ≡ ran f l T 1 (byCorrection 1 (index .corrections) (entriesFrom index 0 (index .count))) (inUse state)
-unfolding ranOver
-ran-bound f l T index state b = rw (passes index state b)
+pub ran-bound : (judging : Bool) (f l : List ℕ) (T : Numbers) (index : Index) (state : Sources) → Bound index state
+    → ranOverBy judging f l T index state ≡ ranBy judging f l T 1 (byCorrection 1 (index .corrections) (entriesFrom index 0 (index .count))) (inUse state)
+unfolding ranOverBy
+ran-bound judging f l T index state b = rw (passes index state b)

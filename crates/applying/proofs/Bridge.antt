@@ -1,7 +1,7 @@
 -- Lines, corrections and a run over sources do to the records what the theory of selection says of them.
 -- Assumes nothing.
 use mathlib.Core.Path.{_≡_, refl, sym, ap, _∙_}
-use mathlib.Core.Bool.{false, cond}
+use mathlib.Core.Bool.{true, false, cond}
 use mathlib.Core.List.{List, [], _∷_, map}
 use mathlib.Core.Option.{Option, none, some, bind, Option·map}
 use Prim.Native.Nat.{ℕ, suc, _+_, _<_}
@@ -22,8 +22,8 @@ use Rattle.history.specs.Apply.{Op, Correction, apply, applyAll, touchedAccepte
 use Rattle.history.specs.Sets.{Numbers, chooseFrom}
 use Rattle.history.proofs.Cases.{every-some}
 use Rattle.applying.specs.Apply.{sourceOf, recordOfLine, lineApplied, linesApplied, failsAt, touchedJudged, refusedRoute}
-use Rattle.applying.specs.Correct.{Outcome, stopped, reached, afterLines, afterJudging, corrected}
-use Rattle.applying.specs.Run.{onward, ran}
+use Rattle.applying.specs.Correct.{Outcome, stopped, reached, afterLines, afterJudging, corrected, correctedBy}
+use Rattle.applying.specs.Run.{onward, ran, ranBy}
 use Rattle.applying.specs.Procedures.{procedures, operation, operations}
 use Rattle.applying.proofs.Kept.{recordIn, adds, addsAll, addsIn, WideLines, WideLog, Placed, placed-less, placed-apply, placed-all, placed-correct, placed-run}
 use Rattle.applying.proofs.PlacedLaws.{recordsOf, put-records, out-records}
@@ -85,7 +85,7 @@ module _ (f l : List ℕ) where
 
   pub corrected-records : (n : ℕ) (es : List Entry) (xs : List ℕ) (more : ℕ) → WideLines (ops es) → Placed (R xs) (addsAll (ops es) + more)
       → filed (corrected f l n es xs) ≡ correct procedures (ops es) (R xs)
-  unfolding corrected correct filed bind
+  unfolding correctedBy correct filed bind
   corrected-records n es xs more w p = by (linesApplied f l es xs) (lines-records es xs more w p)
     where
       checked : List (List ℕ) → Option (List (List ℕ))
@@ -100,7 +100,7 @@ module _ (f l : List ℕ) where
               split (touchedAccepted procedures (ops es) (R ys)) (λ t. absurd (never (sym e ∙ touched-judged f l es ys a .1 t))) (λ t. rw t)
 
       by : (next : Option (List ℕ)) → Option·map R next ≡ applyAll procedures (ops es) (R xs)
-          → filed (afterLines f l n es (failsAt f l es xs) next) ≡ bind (applyAll procedures (ops es) (R xs)) checked
+          → filed (afterLines f l true n es (failsAt f l es xs) next) ≡ bind (applyAll procedures (ops es) (R xs)) checked
       by none q = ap (λ (g : Option (List (List ℕ))). bind g checked) q
       by (some ys) q =
           judged ys
@@ -114,7 +114,7 @@ module _ (f l : List ℕ) where
 
   ran-step : (T : Numbers) (k : ℕ) (ess : List (List Entry)) (xs : List ℕ) → WideLog (opsIn ess) → Placed (R xs) (addsIn (opsIn ess))
       → filed (ran f l T (suc k) ess xs) ≡ run procedures (R xs) (chooseFrom procedures T k (opsIn ess))
-  unfolding ran run chooseFrom operations addsIn filed bind
+  unfolding ranBy run chooseFrom operations addsIn filed bind
   ran-step T k [] xs w p = refl
   ran-step T k (es ∷ ess) xs w p =
       split (T (suc k))

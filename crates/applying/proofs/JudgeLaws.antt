@@ -21,7 +21,8 @@ use Rattle.routes.specs.Walk.{walked}
 use Rattle.routes.specs.declared.Sources.{Sources}
 use Rattle.routes.proofs.InTurnLaws.{alone}
 use Rattle.applying.specs.Apply.{ifRefused, entriesFrom, sameRoute, touched, together, touchedJudged, refusedRoute}
-use Rattle.applying.proofs.StateLaws.{in-use-length, in-use-next, in-use-past}
+use Rattle.applying.proofs.StateLaws.{in-use-length, in-use-next, in-use-past, row-part}
+use Rattle.applying.specs.State.{held}
 
 module _ (f l : List ℕ) where
   -- ---- the lines that name a route
@@ -58,7 +59,7 @@ module _ (f l : List ℕ) where
       unfolding together
       together-next t = rw (in-use-next st h long k n, ← e, t, add-one)
 
-  together-within : (s : ℕ) (xs : List ℕ) → together f l s xs ≤ length xs
+  pub together-within : (s : ℕ) (xs : List ℕ) → together f l s xs ≤ length xs
   unfolding together
   together-within s [] = omega arith
   together-within s (x ∷ xs) = by (sameRoute f l s x) (together-within s xs)
@@ -79,7 +80,7 @@ module _ (f l : List ℕ) where
   skipped es (suc n) [] = refl
   skipped es (suc n) (x ∷ xs) = skipped es n xs
 
-  run-of : (ys : List ℕ) (i m : ℕ) → drop i (take (i + m) ys) ≡ take m (drop i ys)
+  pub run-of : (ys : List ℕ) (i m : ℕ) → drop i (take (i + m) ys) ≡ take m (drop i ys)
   run-of ys zero m = rw zero-add
   run-of [] (suc i) m = let e : suc i + m ≡ suc (i + m) = omega arith in rw e (nothing m)
     where
@@ -149,3 +150,9 @@ module _ (f l : List ℕ) where
   pub routes-end : (es : List Entry) (st : Sources) → st .count ≤ 480 → length (st .at) ≡ 480 → (i : ℕ) → st .count ≤ i → judgedFrom es 0 (drop i (inUse st)) ≡ (Accepted, [])
   unfolding touchedJudged refusedRoute
   routes-end es st h long i n = rw (in-use-past st h long i n)
+
+  -- a route judged by its places in the whole row
+  pub route-walked : (st : Sources) → st .count ≤ 480 → (i end : ℕ) → end ≤ st .count → {v : Verdict} → v ≡ walked (map (recordAt f l) (sourcesIn (held 480 (st .at)) i end))
+      → v ≡ walked (recordsIn f l st i end)
+  unfolding recordsIn
+  route-walked st h i end b e = e ∙ ap (λ (xs : List ℕ). walked (map (recordAt f l) xs)) (row-part (st .at) (st .count) i end b h)

@@ -5,6 +5,8 @@ pub mod ApplyLaws
 mod RangeLaws
 mod JudgeLaws
 mod CorrectLaws
+mod RisingLaws
+mod RouteLaws
 pub mod RunLaws
 pub mod BoundLaws
 pub mod Procedures

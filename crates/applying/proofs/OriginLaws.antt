@@ -31,8 +31,8 @@ use Rattle.history.proofs.Cases.{every-some, cond-some}
 use Rattle.history.proofs.Local.{above-trans, rising-apply}
 use Rattle.applying.specs.State.{notLess, putAt, leftOut, notBefore, countBefore, hasPlace, isRecord, withSource, withoutRecord}
 use Rattle.applying.specs.Apply.{sourceOf, recordOfLine, lineApplied, linesApplied, failsAt, touchedJudged, refusedRoute}
-use Rattle.applying.specs.Correct.{Wrong, Outcome, stopped, reached, corrected, afterLines, afterJudging}
-use Rattle.applying.specs.Run.{onward, ran}
+use Rattle.applying.specs.Correct.{Wrong, Outcome, stopped, reached, corrected, correctedBy, afterLines, afterJudging}
+use Rattle.applying.specs.Run.{onward, ran, ranBy}
 use Rattle.applying.specs.Procedures.{procedures}
 use Rattle.applying.specs.Origin.{Elsewhere, Origin, fromLog, fromFrozen}
 use Rattle.applying.proofs.PlacedLaws.{recordsOf, put-records}
@@ -252,10 +252,10 @@ module _ (f l : List ℕ) where
   no-reached e = let z : _≡_ {A = ℕ} 0 1 = cc in omega arith
 
   corrected-lines : (n : ℕ) (es : List Entry) (xs ys : List ℕ) → corrected f l n es xs ≡ reached ys → linesApplied f l es xs ≡ some ys
-  unfolding corrected
+  unfolding correctedBy
   corrected-lines n es xs ys q = by (linesApplied f l es xs) q
     where
-      by : (next : Option (List ℕ)) → afterLines f l n es (failsAt f l es xs) next ≡ reached ys → next ≡ some ys
+      by : (next : Option (List ℕ)) → afterLines f l true n es (failsAt f l es xs) next ≡ reached ys → next ≡ some ys
       by none h = absurd (no-reached h)
       by (some zs) h = judged (touchedJudged f l es 0 zs) h
         where
@@ -265,7 +265,7 @@ module _ (f l : List ℕ) where
 
   pub ran-traced : (T : Numbers) (n : ℕ) (ess : List (List Entry)) (lines : List Entry) (xs ys : List ℕ) → Every (Every Lettered) ess
       → ran f l T n ess xs ≡ reached ys → Traced lines xs → Traced (lines ++ linesOf T n ess) ys
-  unfolding ran linesOf
+  unfolding ranBy linesOf
   ran-traced T n [] lines xs ys w q t = let same : xs ≡ ys = cc in rw (append-nil lines, ← same) t
   ran-traced T n (es ∷ ess) lines xs ys w q t =
       split (T n) (λ b. rw b (by (corrected f l n es xs) refl (rw b at q) (λ zs h. ran-traced T (n + 1) ess (lines ++ es) zs ys (w .1) h)))

@@ -1,13 +1,16 @@
 -- Laws of sources copied from a state one after the other.
 -- Assumes nothing.
-use mathlib.Core.Path.{_≡_, sym, ap, ap₂, _∙_}
-use mathlib.Core.List.{List, [], _∷_}
+use mathlib.Core.Path.{_≡_, refl, sym, ap, ap₂, _∙_}
+use mathlib.Core.List.{List, [], _∷_, map}
 use Prim.Native.Nat.{ℕ, suc, _+_, _≤_, _<_}
 use native.Mathlib.Omega.{arith}
 use lib.ListN.{length, getD, take, drop, replicate, set, length-drop, drop-of-length-le}
-use lib.Seq.{sets, drop-cons, getD-take, length-take-le}
+use lib.Seq.{sets, drop-cons, getD-take, length-take-le, take-take, take-at}
 use Rattle.slices.proofs.WriteLaws.{stored-front}
-use Rattle.routes.specs.Sources.{inUse, sourcesIn, sourcesFor}
+use Rattle.routes.specs.Known.{Known, walkedKnowing}
+use Rattle.routes.specs.Sources.{recordAt, inUse, sourcesIn, recordsIn, sourcesFor}
+use Rattle.routes.specs.Walk.{walked}
+use Rattle.routes.proofs.KnownLaws.{walked-known}
 use Rattle.routes.specs.declared.Sources.{Sources}
 use Rattle.applying.proofs.StateLaws.{in-use-length, in-use-at}
 
@@ -48,3 +51,16 @@ module _ (st : Sources) (h : st .count ≤ 480) (long : length (st .at) ≡ 480)
         let s : suc (found .count) ≡ found .count + 1 = omega arith in
         w ∙ ap (withMore found) e
         ∙ ap₂ (λ (x k : ℕ). record { count = x; at = sets (set (found .at) (found .count) (getD (st .at) i 0)) k (range (i + 1)) }) c s
+
+-- ---- the copied sources judged
+
+all-copied : (s : Sources) (ys : List ℕ) → s ≡ sourcesFor ys → sourcesIn s 0 (s .count) ≡ ys
+unfolding inUse sourcesFor
+all-copied s ys e =
+    ap (λ (t : Sources). take (t .count) (take (t .count) (t .at))) e ∙ take-take (length ys) (length ys) _ (omega arith)
+    ∙ take-at ys _ (length ys) refl
+
+pub range-judged : (known f l : List ℕ) → Known f l known → (s : Sources) (ys : List ℕ) → s ≡ sourcesFor ys
+    → walkedKnowing known f l (sourcesIn s 0 (s .count)) ≡ walked (map (recordAt f l) ys)
+unfolding recordsIn
+range-judged known f l k s ys e = walked-known f l k s 0 (s .count) ∙ ap (λ (xs : List ℕ). walked (map (recordAt f l) xs)) (all-copied s ys e)

@@ -7,7 +7,7 @@ use Prim.Native.Nat.{ℕ, zero, suc, _+_, _≤_, _<_}
 use native.Mathlib.Omega.{arith}
 use native.Mathlib.Nat.{zero-add}
 use lib.ListN.{length, getD, drop, drop-of-length-le}
-use lib.Seq.{drop-cons, getD-take, length-take-le}
+use lib.Seq.{drop-cons, getD-take, length-take-le, take-take}
 use borrow.Author.Tests.{le-leb, lt-leb}
 use Rattle.slices.specs.Part.{part}
 use Rattle.slices.specs.Order.{order, isEqual, equal}
@@ -17,16 +17,16 @@ use Rattle.slices.proofs.OrderLaws.{after, order-append}
 use Rattle.slices.proofs.PartLaws.{length-part}
 use Rattle.slices.proofs.SearchLaws.{Come, starts, finds, goes-on, ends, first-within}
 use Rattle.routes.specs.Places.{placeOf}
-use Rattle.routes.specs.Sources.{recordAt, inUse}
+use Rattle.routes.specs.Sources.{recordAt, inUse, sourcesIn}
 use Rattle.routes.specs.declared.Sources.{Sources}
-use Rattle.applying.specs.State.{notLess, putAt, leftOut, notBefore, countBefore, hasPlace, isRecord, withSource, withoutRecord, Gives, made, failed}
+use Rattle.applying.specs.State.{notLess, putAt, leftOut, notBefore, countBefore, hasPlace, isRecord, withSource, withoutRecord, held, Gives, made, failed}
 use Rattle.applying.specs.declared.state.Change.{Change}
 
 -- ---- places
 
 module _ (a b : List ℕ) {key sequence number : Ordering} (hk : key ≡ order (part 25 0 a) (part 25 0 b)) (hs : sequence ≡ order (part 3 26 a) (part 3 26 b))
     (hn : number ≡ order (part 1 38 a) (part 1 38 b)) where
-  places : order (placeOf a) (placeOf b) ≡ after key (after sequence number)
+  pub places : order (placeOf a) (placeOf b) ≡ after key (after sequence number)
   unfolding placeOf
   places =
       order-append (part 25 0 a) (part 25 0 b) _ _ (length-part 25 0 a ∙ sym (length-part 25 0 b))
@@ -101,6 +101,11 @@ module _ (st : Sources) (h : st .count ≤ 480) (long : length (st .at) ≡ 480)
     unfolding isRecord
     its-record x k e q = rw (in-use-next i k, ← e) q
 
+-- sources up to a place are the same in the whole row and in the part of it that counts
+pub row-part : (row : List ℕ) (count from to : ℕ) → to ≤ count → count ≤ 480 → sourcesIn (held 480 row) from to ≡ sourcesIn (held count row) from to
+unfolding inUse
+row-part row count from to h k = ap (drop from) (take-take to 480 row (omega arith) ∙ sym (take-take to count row h))
+
 pub search-starts : (st : Sources) (f l rec : List ℕ) → Searched st f l rec 0
 search-starts st f l rec = starts (notBefore f l rec) 0 (inUse st) 0
 
@@ -119,24 +124,24 @@ record-within f l rec (x ∷ xs) (suc i) e = let k : i < length xs = record-with
 
 -- ---- changes
 
-module _ (f l : List ℕ) (s : ℕ) (xs : List ℕ) (rec : List ℕ) (e : rec ≡ recordAt f l s) {i : ℕ} (p : i ≡ countBefore f l rec xs) (c : Change) where
-  pub put-full : 480 ≤ length xs → c .done ≡ false → Gives c (withSource f l s xs)
+module _ (f l : List ℕ) (s : ℕ) (xs : List ℕ) (rec : List ℕ) (e : rec ≡ recordAt f l s) {i : ℕ} (p : i ≡ countBefore f l rec xs) (c : Change) (row : List ℕ) where
+  pub put-full : 480 ≤ length xs → c .done ≡ false → Gives c row (withSource f l s xs)
   unfolding withSource
   put-full h d = rw (le-leb 480 (length xs) h) (failed d)
 
-  pub put-taken : {b : Bool} → length xs < 480 → b ≡ hasPlace f l rec (drop i xs) → b ≡ true → c .done ≡ false → Gives c (withSource f l s xs)
+  pub put-taken : {b : Bool} → length xs < 480 → b ≡ hasPlace f l rec (drop i xs) → b ≡ true → c .done ≡ false → Gives c row (withSource f l s xs)
   unfolding withSource
   put-taken h q t d = rw (lt-leb 480 (length xs) h, ← e, ← p, ← q, t) (failed d)
 
-  pub put-made : {b : Bool} → length xs < 480 → b ≡ hasPlace f l rec (drop i xs) → b ≡ false → c .done ≡ true → c .state .count ≤ 480 → inUse (c .state) ≡ putAt i s xs → Gives c (withSource f l s xs)
+  pub put-made : {b : Bool} → length xs < 480 → b ≡ hasPlace f l rec (drop i xs) → b ≡ false → c .done ≡ true → c .count ≤ 480 → inUse (held (c .count) row) ≡ putAt i s xs → Gives c row (withSource f l s xs)
   unfolding withSource
   put-made h q t d n g = rw (lt-leb 480 (length xs) h, ← e, ← p, ← q, t) (made d n g)
 
-module _ (f l rec xs : List ℕ) {i : ℕ} (p : i ≡ countBefore f l rec xs) (c : Change) where
-  pub take-made : {b : Bool} → b ≡ isRecord f l rec (drop i xs) → b ≡ true → c .done ≡ true → c .state .count ≤ 480 → inUse (c .state) ≡ leftOut i xs → Gives c (withoutRecord f l rec xs)
+module _ (f l rec xs : List ℕ) {i : ℕ} (p : i ≡ countBefore f l rec xs) (c : Change) (row : List ℕ) where
+  pub take-made : {b : Bool} → b ≡ isRecord f l rec (drop i xs) → b ≡ true → c .done ≡ true → c .count ≤ 480 → inUse (held (c .count) row) ≡ leftOut i xs → Gives c row (withoutRecord f l rec xs)
   unfolding withoutRecord
   take-made q t d n g = rw (← p, ← q, t) (made d n g)
 
-  pub take-failed : {b : Bool} → b ≡ isRecord f l rec (drop i xs) → b ≡ false → c .done ≡ false → Gives c (withoutRecord f l rec xs)
+  pub take-failed : {b : Bool} → b ≡ isRecord f l rec (drop i xs) → b ≡ false → c .done ≡ false → Gives c row (withoutRecord f l rec xs)
   unfolding withoutRecord
   take-failed q t d = rw (← p, ← q, t) (failed d)

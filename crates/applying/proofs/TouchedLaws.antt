@@ -5,10 +5,11 @@ use mathlib.Core.Path.{_≡_, refl, sym, ap, subst, _∙_}
 use mathlib.Core.Logic.{_↔_, inl, inr, ⊎-elim}
 use mathlib.Core.Bool.{Bool, true, false, cond, _&&_, false≢true}
 use mathlib.Core.List.{List, [], _∷_, map}
-use Prim.Native.Nat.{ℕ, zero, suc}
+use Prim.Native.Nat.{ℕ, zero, suc, _+_, _≤_, _<_}
+use native.Mathlib.Omega.{arith}
 use Prim.Native.Char.{code}
 use lib.Dec.{eqb}
-use lib.ListN.{take, drop}
+use lib.ListN.{take, drop, getD}
 use Rattle.slices.specs.Order.{equal}
 use Rattle.slices.proofs.Cases.{split, both, and-left, and-right, or-iff}
 use Rattle.slices.proofs.OrderLaws.{equal-iff}
@@ -17,9 +18,10 @@ use Rattle.refusals.specs.declared.Verdict.{Verdict}
 use Rattle.refusals.specs.declared.Verdict.the-variants.{Accepted, Refused}
 use Rattle.refusals.proofs.VerdictLaws.{never, same-refusal}
 use Rattle.corrections.specs.Reading.{Entry}
+use Rattle.corrections.specs.declared.Index.{Index}
 use Rattle.routes.specs.InTurn.{inTurn}
 use Rattle.routes.specs.Places.{keyOf, placeOf, ofRoute, Before, Every, Rising}
-use Rattle.routes.specs.Sources.{recordAt}
+use Rattle.routes.specs.Sources.{logSource, recordAt}
 use Rattle.routes.specs.Walk.{walked}
 use Rattle.routes.proofs.InTurnLaws.{alone, accepts-iff as in-turn-iff}
 use Rattle.routes.proofs.PlaceLaws.{place-key, of-route-in, of-route-out, none-behind}
@@ -27,7 +29,7 @@ use Rattle.routes.proofs.Routes.{no-record}
 use Rattle.history.specs.Format as H
 use Rattle.history.specs.Format.{own}
 use Rattle.history.specs.Apply.{Correction, routeOfOp, Touches, touchedAccepted}
-use Rattle.applying.specs.Apply.{ifRefused, recordOfLine, touched, together, touchedJudged, refusedRoute}
+use Rattle.applying.specs.Apply.{ifRefused, entryAt, entriesFrom, recordOfLine, touched, together, touchedJudged, refusedRoute}
 use Rattle.applying.specs.Procedures.{accepts, procedures, operation}
 use Rattle.applying.proofs.Procedures.{own-route, rising, accepts-iff}
 use Rattle.applying.proofs.PlacedLaws.{recordsOf}
@@ -224,6 +226,37 @@ module _ (f l : List ℕ) where
       let j = judged-iff es 0 xs (rising (recordsOf f l xs) a) in
       let t = touched-iff (map (operation f l) es) (recordsOf f l xs) in
       (λ e. t .1 (j .0 e), λ e. j .1 (t .0 e))
+
+  -- The routes touched stand where that of each line does.
+  lines-stand : (index : Index) (k n : ℕ) (xs : List ℕ)
+      → ((j : ℕ) → k ≤ j → j < k + n → walked (ofRoute (keyOf (recordAt f l (logSource (getD (index .at) j 0)))) (recordsOf f l xs)) ≡ Accepted)
+      → Stand (entriesFrom index k n) xs
+  unfolding entriesFrom
+  lines-stand index k zero xs h i t = absurd t
+  lines-stand index k (suc n) xs h i t =
+      ⊎-elim
+      (λ (q : routeOfOp procedures (operation f l (entryAt index k)) ≡ i).
+      subst (λ (x : List ℕ). walked (ofRoute x (recordsOf f l xs)) ≡ Accepted) (sym (line-route (entryAt index k)) ∙ q) (h k (omega arith) (omega arith)))
+      (λ (q : Touches procedures (map (operation f l) (entriesFrom index (k + 1) n)) i).
+      lines-stand index (k + 1) n xs (λ j a b. h j (omega arith) (omega arith)) i q) t
+
+  pub each-stands : (index : Index) (k n : ℕ) (xs : List ℕ) → Rising (map placeOf (recordsOf f l xs))
+      → ((j : ℕ) → k ≤ j → j < k + n → walked (ofRoute (keyOf (recordAt f l (logSource (getD (index .at) j 0)))) (recordsOf f l xs)) ≡ Accepted)
+      → touchedJudged f l (entriesFrom index k n) 0 xs ≡ Accepted
+  each-stands index k n xs u h = judged-iff (entriesFrom index k n) 0 xs u .1 (lines-stand index k n xs h)
+
+  -- and then none is refused
+  pub none-refused : (es : List Entry) (n : ℕ) (xs : List ℕ) → touchedJudged f l es n xs ≡ Accepted → refusedRoute f l es n xs ≡ []
+  unfolding touchedJudged refusedRoute
+  none-refused es zero [] e = refl
+  none-refused es (suc n) [] e = refl
+  none-refused es (suc n) (x ∷ xs) e = none-refused es n xs e
+  none-refused es zero (x ∷ xs) e =
+      let n = together f l x xs in
+      let first = cond (touched f l es x) (walked (recordsOf f l (x ∷ take n xs))) Accepted in
+      let w = in-turn-iff first (touchedJudged f l es n xs ∷ []) .0 e in
+      ap (λ (v : Verdict). ifRefused v (x ∷ take n xs) (refusedRoute f l es n xs)) (w .0)
+      ∙ none-refused es n xs (sym (alone (touchedJudged f l es n xs)) ∙ w .1)
 
   -- The first touched route that is refused is all of the records of its key, and is refused by the same alone.
   refused-from : (es : List Entry) (n : ℕ) (xs : List ℕ) (r : Refusal) → Rising (map placeOf (recordsOf f l xs)) → touchedJudged f l es n xs ≡ Refused r

@@ -14,9 +14,9 @@ use Rattle.history.specs.Apply.{applyAll, correct}
 use Rattle.history.specs.Sets.{Numbers}
 use Rattle.history.proofs.Cases.{every-some}
 use Rattle.applying.specs.Apply.{ifApplied, lineApplied, linesApplied, failsAt, touchedJudged, refusedRoute}
-use Rattle.applying.specs.Correct.{Wrong, Outcome, stopped, reached, afterLines, afterJudging, corrected}
+use Rattle.applying.specs.Correct.{Wrong, Outcome, stopped, reached, afterLines, afterJudging, corrected, correctedBy}
 use Rattle.applying.specs.Procedures.{procedures, operation, operations}
-use Rattle.applying.specs.Run.{onward, ran}
+use Rattle.applying.specs.Run.{onward, ran, ranBy}
 use Rattle.applying.specs.Wrong.{FirstWrong, line, route, behind}
 use Rattle.applying.proofs.Bridge.{filed, lines-records, corrected-records}
 use Rattle.applying.proofs.Kept.{addsAll, addsIn, WideLines, WideLog, Placed, placed-all, placed-correct}
@@ -66,7 +66,7 @@ module _ (f l : List ℕ) where
 
   one-wrong : (n : ℕ) (es : List Entry) (ess : List (List Entry)) (xs : List ℕ) (more : ℕ) (r : Refusal) (w : Wrong) → WideLines (map (operation f l) es)
       → Placed (recordsOf f l xs) (addsAll (map (operation f l) es) + more) → corrected f l n es xs ≡ stopped r w → FirstWrong f l n (es ∷ ess) xs r w
-  unfolding corrected
+  unfolding correctedBy
   one-wrong n es ess xs more r w wide p e = by (linesApplied f l es xs) refl e
     where
       told : (ys : List ℕ) → linesApplied f l es xs ≡ some ys → (v : Verdict) → touchedJudged f l es 0 ys ≡ v → afterJudging n ys (refusedRoute f l es 0 ys) v ≡ stopped r w
@@ -80,7 +80,7 @@ module _ (f l : List ℕ) where
           let same = same-stop h in
           rw (← same .0, ← same .1) (route key q t touch own alone)
 
-      by : (o : Option (List ℕ)) → linesApplied f l es xs ≡ o → afterLines f l n es (failsAt f l es xs) o ≡ stopped r w → FirstWrong f l n (es ∷ ess) xs r w
+      by : (o : Option (List ℕ)) → linesApplied f l es xs ≡ o → afterLines f l true n es (failsAt f l es xs) o ≡ stopped r w → FirstWrong f l n (es ∷ ess) xs r w
       by none q h =
           let g = failing-line es xs q in
           let same = same-stop h in
@@ -92,7 +92,7 @@ module _ (f l : List ℕ) where
   -- What stops a run of all corrections is told of the first that fails.
   pub first-wrong : (T : Numbers) → ((i : ℕ) → T i ≡ true) → (n : ℕ) (ess : List (List Entry)) (xs : List ℕ) (r : Refusal) (w : Wrong) → WideLog (operations f l ess)
       → Placed (recordsOf f l xs) (addsIn (operations f l ess)) → ran f l T n ess xs ≡ stopped r w → FirstWrong f l n ess xs r w
-  unfolding ran operations addsIn filed
+  unfolding ranBy operations addsIn filed
   first-wrong T all n [] xs r w wide p e = absurd (never-stops e)
   first-wrong T all n (es ∷ ess) xs r w wide p e =
       by (corrected f l n es xs) refl (sym (ap (λ (b : Bool). onward (cond b (corrected f l n es xs) (reached xs)) (ran f l T (n + 1) ess)) (all n)) ∙ e)

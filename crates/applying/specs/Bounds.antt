@@ -14,7 +14,7 @@ use Rattle.routes.specs.Sources.{inUse, sourcesFor}
 use Rattle.routes.specs.declared.Sources.{Sources}
 use Rattle.history.specs.Sets.{Numbers}
 use Rattle.applying.specs.Correct.{noMore, Outcome, stopped, reached, faultAs}
-use Rattle.applying.specs.Run.{correctionsOf, ran}
+use Rattle.applying.specs.Run.{correctionsOf, ranBy}
 use Rattle.applying.specs.declared.Fault.{Fault}
 use Rattle.applying.specs.declared.Ran.{Ran}
 
@@ -35,11 +35,14 @@ abbrev pub bounded : Verdict → Outcome → Outcome
 bounded Accepted o = o
 bounded (Refused r) o = stopped r noMore
 
--- the corrections of a set among those of an index, in their order
-unfoldable pub ranOver : (frozen log : List ℕ) → Numbers → Index → Sources → Outcome
-ranOver frozen log T index state =
+-- the corrections of a set among those of an index, in their order; their routes judged, or not
+unfoldable pub ranOverBy : (judging : Bool) (frozen log : List ℕ) → Numbers → Index → Sources → Outcome
+ranOverBy judging frozen log T index state =
     bounded (boundStage index state)
-    (ran frozen log T 1 (correctionsOf index) (inUse state))
+    (ranBy judging frozen log T 1 (correctionsOf index) (inUse state))
+
+abbrev pub ranOver : (frozen log : List ℕ) → Numbers → Index → Sources → Outcome
+ranOver = ranOverBy true
 
 -- ---- as the code gives it
 

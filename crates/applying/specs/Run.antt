@@ -1,7 +1,7 @@
 -- Corrections one after the other.
 -- Assumes nothing.
 use Prim.Native.Nat.{ℕ, zero, suc, _+_}
-use mathlib.Core.Bool.{cond}
+use mathlib.Core.Bool.{Bool, true, cond}
 use mathlib.Core.List.{List, [], _∷_}
 use lib.Dec.{eqb}
 use lib.ListN.{getD, take, drop}
@@ -30,10 +30,13 @@ abbrev pub onward : Outcome → (List ℕ → Outcome) → Outcome
 onward (stopped r w) next = stopped r w
 onward (reached xs) next = next xs
 
--- corrections from number n on, those of a set alone, over the records as they stand
-unfoldable pub ran : (frozen log : List ℕ) → Numbers → (n : ℕ) → List (List Entry) → List ℕ → Outcome
-ran frozen log T n [] xs = reached xs
-ran frozen log T n (es ∷ ess) xs = onward (correctedIf frozen log (T n) n es xs) (ran frozen log T (n + 1) ess)
+-- corrections from number n on, those of a set alone, over the records as they stand; their routes judged, or not
+unfoldable pub ranBy : (judging : Bool) (frozen log : List ℕ) → Numbers → (n : ℕ) → List (List Entry) → List ℕ → Outcome
+ranBy judging frozen log T n [] xs = reached xs
+ranBy judging frozen log T n (es ∷ ess) xs = onward (correctedIf frozen log judging (T n) n es xs) (ranBy judging frozen log T (n + 1) ess)
+
+abbrev pub ran : (frozen log : List ℕ) → Numbers → (n : ℕ) → List (List Entry) → List ℕ → Outcome
+ran = ranBy true
 
 -- the numbers that a row of marks has, one byte for each number from 0 on
 unfoldable pub marked : List ℕ → Numbers

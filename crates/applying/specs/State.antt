@@ -3,7 +3,7 @@
 use Prim.Native.Nat.{ℕ, suc, _≤_}
 use mathlib.Core.Path.{_≡_}
 use mathlib.Core.Bool.{Bool, true, false, cond}
-use mathlib.Core.List.{List, [], _∷_, _++_}
+use mathlib.Core.List.{List, [], _∷_, _++_, map}
 use mathlib.Core.Option.{Option, some, none}
 use lib.Dec.{leb}
 use lib.ListN.{length, take, drop}
@@ -12,8 +12,9 @@ use Rattle.slices.specs.Order.{order, equal}
 use Rattle.slices.specs.Search.{firstAt}
 use Rattle.slices.specs.declared.Ordering.{Ordering}
 use Rattle.slices.specs.declared.Ordering.the-variants.{Less, Equal, Greater}
-use Rattle.routes.specs.Places.{placeOf}
+use Rattle.routes.specs.Places.{placeOf, Rising}
 use Rattle.routes.specs.Sources.{recordAt, inUse}
+use Rattle.routes.specs.declared.Sources.{Sources}
 use Rattle.applying.specs.declared.state.Change.{Change}
 
 -- the first of two stands level with the second, or after it
@@ -58,7 +59,21 @@ module _ (frozen log : List ℕ) where
   unfoldable pub withoutRecord : List ℕ → List ℕ → Option (List ℕ)
   withoutRecord rec xs = let i = countBefore rec xs in cond (isRecord rec (drop i xs)) (some (leftOut i xs)) none
 
--- a change as the code gives it: done, with the sources that it comes to; or not done
-pub data Gives (c : Change) : Option (List ℕ) → Type 0 where
-  made : {xs : List ℕ} → c .done ≡ true → c .state .count ≤ 480 → inUse (c .state) ≡ xs → Gives c (some xs)
-  failed : c .done ≡ false → Gives c none
+  -- where it is said that places rise, they do
+  abbrev pub InOrder : (rising : Bool) → List ℕ → Type 0
+  InOrder rising xs = rising ≡ true → Rising (map placeOf (map (recordAt frozen log) xs))
+
+-- ---- as the code gives it
+
+-- sources that lie in a row, of which so many count
+abbrev pub held : (count : ℕ) (at : List ℕ) → Sources
+held n xs = record { count = n; at = xs }
+
+-- a row of 480
+abbrev pub Row : (count : ℕ) (at : List ℕ) → Type 0
+Row n xs = (n ≤ 480) × (length xs ≡ 480)
+
+-- a change of such a row: done, with the sources that it comes to; or not done
+pub data Gives (c : Change) (at : List ℕ) : Option (List ℕ) → Type 0 where
+  made : {xs : List ℕ} → c .done ≡ true → c .count ≤ 480 → inUse (held (c .count) at) ≡ xs → Gives c at (some xs)
+  failed : c .done ≡ false → Gives c at none

@@ -14,7 +14,7 @@ use routes::known::learn;
 use routes::log_source;
 
 // How many slots the table has: one for each record of a file, and one for each that a log may hold.
-const SLOTS: usize = MOST_RECORDS + LONGEST_LOG / LINE_WIDTH + 1;
+pub(crate) const SLOTS: usize = MOST_RECORDS + LONGEST_LOG / LINE_WIDTH + 1;
 
 // Puts the records of a state into the table.
 fn learn_records<'a>(frozen: &'a [u8], log: &'a [u8], state: Sources, known: &mut [u32])

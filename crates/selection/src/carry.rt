@@ -20,7 +20,7 @@ ghost use Rattle.corrections.specs.Reading.{said};
 use crate::Picked;
 use crate::choosing::choose;
 use applying::is_marked;
-use applying::run;
+use applying::run_unjudged;
 use corrections::Index;
 use corrections::MOST_CORRECTIONS;
 use refusals::MOST_RECORDS;
@@ -90,7 +90,7 @@ fn carry<'a>(frozen: &'a [u8], log: &'a [u8], index: Index, marks: &[u8]) -> Pic
     ensures { λ r. ⌜ r ≡ pickedAs (pickBy (now (frozen .entry)) (now (log .entry)) (marked (now (marks .entry))) (index .corrections) (linesOf index)) ⌝ }
 {
     let state = sources_of(frozen);
-    let new = run(frozen, log, index, marks, state);
+    let new = run_unjudged(frozen, log, index, marks, state);
     let verdict = new.verdict;
     match verdict {
         Verdict::Accepted => {}

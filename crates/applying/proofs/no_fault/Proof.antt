@@ -1,15 +1,18 @@
--- No line stands at 0. Assumes nothing.
-use mathlib.Core.Path.{_∙_}
+-- Put together as the definition says. Assumes nothing.
+use Rattle.applying.specs.Correct.{faultAs}
+use Rattle.routes.specs.Sources.{sourcesFor}
+use mathlib.Core.Path.{refl}
 use borrow.Author.Needs.{needs}
-use Rattle.applying.proofs.CorrectLaws.{nothing-wrong}
+use native.Mathlib.Omega.{arith}
 use Rattle.applying.proofs.no_fault.Statement.{statement}
 use Rattle.applying.proofs.no_fault.Tie as tie
+use Rattle.applying.proofs.no_fault.Reads as reads
+use Rattle.applying.proofs.no_fault.Lts as lts
 
-line-fault-requires : tie.Need-line-fault-requires
-line-fault-requires c κs = search needs
-
+-- src/lib.rt:53:1
 returns : tie.Need-returns
-returns c = c .line-fault .ensures ∙ nothing-wrong
+unfolding faultAs sourcesFor
+returns c = refl
 
 pub no-fault-spec : {M : Type 1} → statement M
-no-fault-spec = tie.close (tie.spec line-fault-requires returns)
+no-fault-spec = tie.close (tie.spec returns)

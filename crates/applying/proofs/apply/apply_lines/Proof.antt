@@ -1,70 +1,91 @@
 -- The invariant: the lines that are left, applied to the state so far, give the answer. Assumes nothing.
-use Rattle.slices.proofs.Cases.{is-false, is-true}
-use Rattle.applying.specs.Apply.{entriesFrom, linesApplied, failsAt}
-use Rattle.routes.specs.Sources.{inUse}
-use Prim.Native.Nat.{_≤_, _-_}
+use Rattle.applying.proofs.RisingLaws.{line-in-order}
+use Rattle.applying.proofs.ApplyLaws.{gave-some, lines-done, lines-failed, lines-go-on, none-fails, fails-here, fails-later}
 use mathlib.Core.Path.{_≡_, refl, sym, _∙_}
-use Rattle.applying.proofs.ApplyLaws.{lines-done, lines-failed, lines-go-on, none-fails, fails-here, fails-later}
+use mathlib.Core.List.{[]}
+use Prim.Native.Nat.{_-_}
+use lib.ListN.{length}
+use Rattle.routes.specs.Sources.{inUse}
+use Rattle.applying.specs.Apply.{ForLines, entriesFrom, linesApplied, failsAt}
+use Rattle.applying.specs.State.{InOrder, held, Row}
+use Rattle.slices.proofs.Cases.{is-false, is-true}
 use borrow.Author.Needs.{needs}
+use native.Mathlib.Omega.{arith}
 use Rattle.applying.proofs.apply.apply_lines.Statement.{statement}
 use Rattle.applying.proofs.apply.apply_lines.Tie as tie
+use Rattle.applying.proofs.apply.apply_lines.Reads as reads
+use Rattle.applying.proofs.apply.apply_lines.Lts as lts
+use Rattle.applying.proofs.apply.apply_line.Reads as apply-line-reads
 
 abbrev Inv-loop : tie.InvT-loop
-Inv-loop frozen log from to index standing₀ k₀ standing k = (standing .count ≤ 480) × (linesApplied frozen log (entriesFrom index from (to - from)) (inUse standing₀) ≡ linesApplied frozen log (entriesFrom index k (to - k)) (inUse standing)) × (failsAt frozen log (entriesFrom index from (to - from)) (inUse standing₀) ≡ failsAt frozen log (entriesFrom index k (to - k)) (inUse standing))
+Inv-loop frozen log rising letters offsets from to at₀ count standing₀ k₀ at standing k = (length at ≡ length at₀) × Row standing at × InOrder frozen log rising (inUse (held standing at)) × ForLines letters offsets (λ index. (linesApplied frozen log (entriesFrom index from (to - from)) (inUse (held count at₀)) ≡ linesApplied frozen log (entriesFrom index k (to - k)) (inUse (held standing at))) × (failsAt frozen log (entriesFrom index from (to - from)) (inUse (held count at₀)) ≡ failsAt frozen log (entriesFrom index k (to - k)) (inUse (held standing at))))
 
 abbrev μ-loop : tie.MeasureT-loop
-μ-loop frozen log from to index standing₀ k₀ standing k = to - k
+μ-loop frozen log rising letters offsets from to at₀ count standing₀ k₀ at standing k = to - k
 
+-- src/apply.rt:63:5
 loop-holds : tie.Need-loop-holds Inv-loop μ-loop
-loop-holds c = (c .before .before .pre .0, refl, refl)
+loop-holds c = (refl, c .before .before .before .before .before .pre .0, c .before .before .before .before .before .pre .4, λ owners. (refl, refl))
 
-element-copy-out-letter : tie.Need-element-copy-out-letter Inv-loop μ-loop
-element-copy-out-letter c = search needs
+-- src/apply.rt:64:22
+shared-slice-read-letter : tie.Need-shared-slice-read-letter Inv-loop μ-loop
+shared-slice-read-letter c = omega (arith, c .before .loop-test .taken, c .before .before .before .before .before .before .before .before .pre .1, c .before .before .before .before .before .before .before .before .pre .3)
 
-mul-at : tie.Need-mul-at Inv-loop μ-loop
-mul-at c = search needs
+-- src/apply.rt:65:22
+mul-offset : tie.Need-mul-offset Inv-loop μ-loop
+mul-offset c = search needs
 
-element-copy-out-at : tie.Need-element-copy-out-at Inv-loop μ-loop
-element-copy-out-at c = search needs
+-- src/apply.rt:65:22
+shared-slice-read-offset : tie.Need-shared-slice-read-offset Inv-loop μ-loop
+shared-slice-read-offset c = omega (arith, c .before .before .loop-test .taken, c .before .before .before .before .before .before .before .before .before .pre .1, c .before .before .before .before .before .before .before .before .before .pre .2 .0)
 
-mul-n : tie.Need-mul-n Inv-loop μ-loop
-mul-n c = search needs
-
-element-copy-out-n : tie.Need-element-copy-out-n Inv-loop μ-loop
-element-copy-out-n c = search needs
-
+-- src/apply.rt:66:13
 apply-line-requires : tie.Need-apply-line-requires Inv-loop μ-loop
-apply-line-requires c κs =
-    let turn = c .before .before .before in
-    (turn .before .loop .inv .0, turn .before .before .before .before .pre .2 _)
+apply-line-requires c κs = (c .before .before .before .before .loop .inv .1, c .before .before .before .before .before .before .before .before .before .before .pre .2 .1 _, c .before .before .before .before .loop .inv .2)
 
+-- src/apply.rt:68:13
+same-length : tie.Need-same-length Inv-loop μ-loop
+same-length c = search needs
+
+-- src/apply.rt:68:13
 returns : tie.Need-returns Inv-loop μ-loop
-returns c =
-    let turn = c .before .before .before .before .before .before in
+returns c = λ owners.
     let d = is-false _ (c .if1 .taken) in
-    let inv = turn .before .loop .inv in
-    let g = c .before .before .apply-line .ensures in
-    (lines-failed _ _ _ _ _ _ _ (inv .1) (turn .loop-test .taken) _ g d, sym (inv .2 ∙ fails-here _ _ _ _ _ (turn .loop-test .taken) _ _ g d))
+    let inv = c .before .before .before .before .before .before .before .before .before .loop .inv .3 owners in
+    let g = c .before .before .before .before .apply-line .ensures _ in
+    (lines-failed _ _ _ _ _ _ _ (inv .0) (c .before .before .before .before .before .before .before .before .loop-test .taken) _ _ g d, sym (inv .1 ∙ fails-here _ _ _ _ _ (c .before .before .before .before .before .before .before .before .loop-test .taken) _ _ _ g d))
 
+-- src/apply.rt:74:9
 add-k : tie.Need-add-k Inv-loop μ-loop
 add-k c = search needs
 
+-- src/apply.rt:63:5
 loop-less : tie.Need-loop-less Inv-loop μ-loop
 loop-less c = search needs
 
+-- src/apply.rt:63:5
 loop-again : tie.Need-loop-again Inv-loop μ-loop
-loop-again c =
-    let turn = c .before .before .before .before .before .before .before in
-    let d = is-true _ (c .before .if1 .left) in
-    let inv = turn .before .loop .inv in
-    let g = c .before .before .before .apply-line .ensures in
-    let on = lines-go-on _ _ _ _ _ _ _ (inv .1) (turn .loop-test .taken) _ g d in
-    (on .0, on .1, inv .2 ∙ fails-later _ _ _ _ _ (turn .loop-test .taken) _ _ g d)
+loop-again c = let d = is-true _ (c .if1 .left) in
+    let inv = c .before .before .before .before .before .before .before .before .before .loop .inv in
+    let s = gave-some _ _ _ (c .before .before .before .before .apply-line .ensures 0) d in (
+      search needs,
+      (s .1, search needs),
+      line-in-order _ _ _ _ _ _ (s .0) (inv .2),
+      λ owners.
+          let g = c .before .before .before .before .apply-line .ensures _ in
+          let on = lines-go-on _ _ _ _ _ _ _ (inv .3 owners .0) (c .before .before .before .before .before .before .before .before .loop-test .taken) _ _ g d in
+          (on .1, inv .3 owners .1 ∙ fails-later _ _ _ _ _ (c .before .before .before .before .before .before .before .before .loop-test .taken) _ _ _ g d),
+    )
 
+-- src/apply.rt:45:1
+same-length-2 : tie.Need-same-length-2 Inv-loop μ-loop
+same-length-2 c = search needs
+
+-- src/apply.rt:45:1
 returns-2 : tie.Need-returns-2 Inv-loop μ-loop
-returns-2 c =
+returns-2 c = λ owners.
     let inv = c .before .loop .inv in
-    (lines-done _ _ _ _ _ _ _ (inv .1) _ (c .loop-test .left) (inv .0) refl refl, sym (inv .2 ∙ none-fails _ _ _ _ _ _ (c .loop-test .left)))
+    (lines-done _ _ _ _ _ _ _ (inv .3 owners .0) _ _ (c .loop-test .left) (inv .1 .0) refl refl, sym (inv .3 owners .1 ∙ none-fails _ _ _ _ _ _ (c .loop-test .left)))
 
 pub apply-lines-spec : {M : Type 1} → statement M
 apply-lines-spec =
@@ -73,14 +94,14 @@ apply-lines-spec =
     Inv-loop
     μ-loop
     loop-holds
-    element-copy-out-letter
-    mul-at
-    element-copy-out-at
-    mul-n
-    element-copy-out-n
+    shared-slice-read-letter
+    mul-offset
+    shared-slice-read-offset
     apply-line-requires
+    same-length
     returns
     add-k
     loop-less
     loop-again
+    same-length-2
     returns-2)

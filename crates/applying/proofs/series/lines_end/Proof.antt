@@ -1,54 +1,57 @@
 -- The invariant: what is left of the lines gives their end. Assumes nothing.
-use Rattle.applying.specs.Run.{leadingLines}
-use Rattle.applying.specs.Apply.{entriesFrom}
-use Prim.Native.Nat.{_+_, _-_, _≤_}
-use mathlib.Core.Path.{_≡_, refl}
 use Rattle.applying.proofs.RunLaws.{leading-end, leading-stop, leading-next}
+use mathlib.Core.Path.{_≡_, refl}
+use Prim.Native.Nat.{_+_, _-_, _≤_}
+use Rattle.applying.specs.Apply.{ForOwners, entriesFrom}
+use Rattle.applying.specs.Run.{leadingLines}
 use borrow.Author.Needs.{needs}
 use native.Mathlib.Omega.{arith}
 use Rattle.applying.proofs.series.lines_end.Statement.{statement}
 use Rattle.applying.proofs.series.lines_end.Tie as tie
+use Rattle.applying.proofs.series.lines_end.Reads as reads
+use Rattle.applying.proofs.series.lines_end.Lts as lts
 
 abbrev Inv-loop : tie.InvT-loop
-Inv-loop from n index count k₀ k = (k ≤ count) × (count ≡ index .count) × (from + leadingLines n (entriesFrom index from (index .count - from)) ≡ k + leadingLines n (entriesFrom index k (index .count - k)))
+Inv-loop owners count from n k₀ k = (k ≤ count) × ForOwners owners (λ index. from + leadingLines n (entriesFrom index from (count - from)) ≡ k + leadingLines n (entriesFrom index k (count - k)))
 
 abbrev μ-loop : tie.MeasureT-loop
-μ-loop from n index count k₀ k = count - k
+μ-loop owners count from n k₀ k = count - k
 
+-- src/series.rt:26:5
 loop-holds : tie.Need-loop-holds Inv-loop μ-loop
-loop-holds c = (c .pre .1, refl, refl)
+loop-holds c = (c .pre .1, λ letters offsets. refl)
 
-mul-of : tie.Need-mul-of Inv-loop μ-loop
-mul-of c = search needs
+-- src/series.rt:27:21
+mul-owner : tie.Need-mul-owner Inv-loop μ-loop
+mul-owner c = search needs
 
-element-copy-out-of : tie.Need-element-copy-out-of Inv-loop μ-loop
-element-copy-out-of c = search needs
+-- src/series.rt:27:21
+shared-slice-read-owner : tie.Need-shared-slice-read-owner Inv-loop μ-loop
+shared-slice-read-owner c = search needs
 
-cast-if1 : tie.Need-cast-if1 Inv-loop μ-loop
-cast-if1 c = search needs
+-- src/series.rt:27:21
+cast-owner : tie.Need-cast-owner Inv-loop μ-loop
+cast-owner c = omega (arith, c .shared-slice-known .given (c .before .before .loop .k))
 
+-- src/series.rt:29:13
 returns : tie.Need-returns Inv-loop μ-loop
-returns c =
-    let turn = c .before .before in
-    let inv = turn .before .loop .inv in
-    (leading-stop _ _ _ _ (inv .2) (omega (arith, inv .1, turn .loop-test .taken)) (c .if1 .taken), omega (arith, inv .0, inv .1))
+returns c = let inv = c .before .before .before .loop .inv in (λ letters offsets. leading-stop _ _ _ _ (inv .1 letters offsets) (c .before .before .loop-test .taken) (c .if1 .taken), inv .0)
 
+-- src/series.rt:31:9
 add-k : tie.Need-add-k Inv-loop μ-loop
 add-k c = search needs
 
+-- src/series.rt:26:5
 loop-less : tie.Need-loop-less Inv-loop μ-loop
 loop-less c = search needs
 
+-- src/series.rt:26:5
 loop-again : tie.Need-loop-again Inv-loop μ-loop
-loop-again c =
-    let turn = c .before .before in
-    let inv = turn .before .loop .inv in
-    (omega (arith, turn .loop-test .taken), inv .1, leading-next _ _ _ _ (inv .2) (omega (arith, inv .1, turn .loop-test .taken)) (c .if1 .left))
+loop-again c = let inv = c .before .before .before .loop .inv in (omega (arith, c .before .before .loop-test .taken), λ letters offsets. leading-next _ _ _ _ (inv .1 letters offsets) (c .before .before .loop-test .taken) (c .if1 .left))
 
+-- src/series.rt:21:1
 returns-2 : tie.Need-returns-2 Inv-loop μ-loop
-returns-2 c =
-    let inv = c .before .loop .inv in
-    (leading-end _ _ _ _ (inv .2) (omega (arith, inv .1, c .loop-test .left)), omega (arith, inv .0, inv .1))
+returns-2 c = let inv = c .before .loop .inv in (λ letters offsets. leading-end _ _ _ _ (inv .1 letters offsets) (c .loop-test .left), inv .0)
 
 pub lines-end-spec : {M : Type 1} → statement M
 lines-end-spec =
@@ -57,9 +60,9 @@ lines-end-spec =
     Inv-loop
     μ-loop
     loop-holds
-    mul-of
-    element-copy-out-of
-    cast-if1
+    mul-owner
+    shared-slice-read-owner
+    cast-owner
     returns
     add-k
     loop-less

@@ -1,80 +1,120 @@
 -- The invariant: the corrections that are left, over the state so far, give the answer. Assumes nothing.
-use Rattle.applying.specs.Run.{byCorrection, ran, marked}
-use Rattle.applying.specs.Apply.{entriesFrom}
-use Rattle.routes.specs.Sources.{inUse}
+use Rattle.applying.proofs.RunLaws.{counted, left, run-starts, run-of-rows, run-ends, run-stops, run-goes-on, order-goes-on}
+use mathlib.Core.Path.{_≡_, refl, subst, _∙_}
 use Prim.Native.Nat.{_+_, _≤_, _<_, _-_}
-use mathlib.Core.Path.{_≡_, refl}
-use Rattle.applying.proofs.RunLaws.{left, run-starts, run-ends, run-stops, run-goes-on}
+use lib.ListN.{length}
+use Rattle.routes.specs.Sources.{inUse}
+use Rattle.applying.specs.Correct.{Comes}
+use Rattle.applying.specs.Apply.{entriesFrom}
+use Rattle.applying.specs.Run.{byCorrection, ranBy, marked}
+use Rattle.applying.specs.State.{InOrder, held, Row}
+use denote.Ref.{now}
 use borrow.Author.Needs.{needs}
 use native.Mathlib.Omega.{arith}
 use Rattle.applying.proofs.series.run_marked.Statement.{statement}
 use Rattle.applying.proofs.series.run_marked.Tie as tie
+use Rattle.applying.proofs.series.run_marked.Reads as reads
+use Rattle.applying.proofs.series.run_marked.Lts as lts
+use Rattle.applying.proofs.faults.line_trouble.Reads as line-trouble-reads
+use Rattle.applying.proofs.is_marked.Reads as is-marked-reads
+use Rattle.applying.proofs.series.correct_if.Reads as correct-if-reads
+use Rattle.applying.proofs.series.lines_end.Reads as lines-end-reads
 
 abbrev Inv-loop : tie.InvT-loop
-Inv-loop frozen log known index marks total standing₀ k₀ n₀ standing k n = (standing .count ≤ 480) × (k ≤ index .count) × (total ≡ index .corrections) × (total < 18446744073709551616) × (ran frozen log (marked marks) 1 (byCorrection 1 (index .corrections) (entriesFrom index 0 (index .count))) (inUse standing₀) ≡ ran frozen log (marked marks) (n + 1) (left index n total k) (inUse standing))
+Inv-loop frozen log pass known marks at₀ count total lines letters offsets owners standing₀ k₀ n₀ at standing k n = (length at ≡ length at₀) × Row standing at × InOrder frozen log (pass .rising) (inUse (held standing at)) × (k ≤ lines) × (total < 18446744073709551616) × (ranBy (pass .judging) frozen log (marked marks) 1 (byCorrection 1 total (entriesFrom (counted total lines letters offsets owners) 0 lines)) (inUse (held count at₀)) ≡ ranBy (pass .judging) frozen log (marked marks) (n + 1) (left (counted total lines letters offsets owners) n total k) (inUse (held standing at)))
 
 abbrev μ-loop : tie.MeasureT-loop
-μ-loop frozen log known index marks total standing₀ k₀ n₀ standing k n = total - n
+μ-loop frozen log pass known marks at₀ count total lines letters offsets owners standing₀ k₀ n₀ at standing k n = total - n
 
+-- src/series.rt:100:5
 loop-holds : tie.Need-loop-holds Inv-loop μ-loop
-loop-holds c = let pre = c .before .before .before .before .pre in (pre .0, omega arith, refl, search needs, run-starts _ _ _ _ _ _)
+loop-holds c = let pre = c .before .before .before .before .before .before .before .before .pre in (refl, pre .0, pre .3, omega arith, search needs, run-starts _ _ _ _ _ _ _)
 
+-- src/series.rt:101:28
+slice-aggregate-lines-end : tie.Need-slice-aggregate-lines-end Inv-loop μ-loop
+slice-aggregate-lines-end c = search needs
+
+-- src/series.rt:101:47
 add-lines-end : tie.Need-add-lines-end Inv-loop μ-loop
 add-lines-end c = search needs
 
+-- src/series.rt:101:13
 lines-end-requires : tie.Need-lines-end-requires Inv-loop μ-loop
-lines-end-requires c κs = (c .before .before .before .before .before .before .pre .1, c .before .loop .inv .1)
+lines-end-requires c κs = (c .before .before .before .before .before .before .before .before .before .before .before .pre .1, c .before .before .loop .inv .3, search needs)
 
+-- src/series.rt:102:39
 add-is-marked : tie.Need-add-is-marked Inv-loop μ-loop
 add-is-marked c = search needs
 
+-- src/series.rt:102:13
 is-marked-requires : tie.Need-is-marked-requires Inv-loop μ-loop
 is-marked-requires c κs = search needs
 
+-- src/series.rt:109:13
+slice-aggregate-correct-if : tie.Need-slice-aggregate-correct-if Inv-loop μ-loop
+slice-aggregate-correct-if c = search needs
+
+-- src/series.rt:110:13
+slice-aggregate-correct-if-2 : tie.Need-slice-aggregate-correct-if-2 Inv-loop μ-loop
+slice-aggregate-correct-if-2 c = search needs
+
+-- src/series.rt:113:13
 add-correct-if : tie.Need-add-correct-if Inv-loop μ-loop
 add-correct-if c = search needs
 
+-- src/series.rt:103:13
 correct-if-requires : tie.Need-correct-if-requires Inv-loop μ-loop
-correct-if-requires c κs =
-    let pre = c .before .before .before .before .before .before .before .before .pre in
-    (c .before .before .before .loop .inv .0, omega (arith, pre .1, c .before .lines-end .ensures .1), pre .2, pre .3)
+correct-if-requires c κs = let pre = c .before .before .before .before .before .before .before .before .before .before .before .before .before .before .before .before .pre in
+    let inv = c .before .before .before .before .before .before .before .loop .inv in
+    let good = c .before .before .before .before .before .before .before .before .before .before .before .before .before .before .before .before .good .1 .1 .1 .1 .0 in
+    (inv .1, omega (arith, pre .1, c .before .before .before .before .lines-end .ensures .1), (search needs, pre .2), search needs, inv .2, pre .4)
 
 enum-told : tie.Need-enum-told Inv-loop μ-loop
 enum-told c = search needs
 
+-- src/series.rt:121:17
 enum-told-2 : tie.Need-enum-told-2 Inv-loop μ-loop
 enum-told-2 c = search needs
 
+-- src/series.rt:121:17
+same-length : tie.Need-same-length Inv-loop μ-loop
+same-length c = search needs
+
+-- src/series.rt:121:17
 returns : tie.Need-returns Inv-loop μ-loop
-returns c =
-    let one = c .before .before in
-    let lines = one .before .before in
-    let turn = lines .before in
-    let inv = turn .before .loop .inv in
-    run-stops _ _ _ _ _ _ _ _ _ (inv .4) (turn .loop-test .taken) (lines .lines-end .ensures .0) (inv .1) (one .before .is-marked .ensures) _ (one .correct-if .ensures) (c .enum-told2 .given .1)
+returns c = let inv = c .before .before .before .before .before .before .before .before .before .before .before .before .loop .inv in
+    let index = c .before .before .before .before .before .before .before .before .before .before .before .before .before .before .before .before .before .before .before .before .before .args .index in
+    subst (Comes _ _) (run-of-rows _ _ _ _ index _) (run-stops _ _ _ _ (counted (index .corrections) (index .count) (index .kind) (index .at) (index .correction)) _ _ _ _ _ (inv .5) (c .before .before .before .before .before .before .before .before .before .before .before .loop-test .taken) (c .before .before .before .before .before .before .before .before .before .lines-end .ensures .0 _ _) (inv .3) (c .before .before .before .before .before .before .before .before .is-marked .ensures) _ _ (c .before .before .before .before .correct-if .ensures _) (c .enum-told2 .given .1))
 
+-- src/series.rt:126:9
 add-n : tie.Need-add-n Inv-loop μ-loop
-add-n c = let turn = c .before .before .before .before .before .before in omega (arith, turn .loop-test .taken, turn .before .loop .inv .3)
+add-n c = omega (arith, c .before .before .before .before .before .before .before .before .before .before .before .loop-test .taken, c .before .before .before .before .before .before .before .before .before .before .before .before .loop .inv .4)
 
+-- src/series.rt:100:5
 loop-less : tie.Need-loop-less Inv-loop μ-loop
 loop-less c = search needs
 
+-- src/series.rt:100:5
 loop-again : tie.Need-loop-again Inv-loop μ-loop
-loop-again c =
-    let one = c .before .before .before in
-    let lines = one .before .before in
-    let turn = lines .before in
-    let inv = turn .before .loop .inv in
-    let on = run-goes-on _ _ _ _ _ _ _ _ _ (inv .4) (turn .loop-test .taken) (lines .lines-end .ensures .0) (inv .1) (one .before .is-marked .ensures) _ (one .correct-if .ensures) (c .before .enum-told .given .1) in
-    (on .0, lines .lines-end .ensures .1, inv .2, inv .3, on .1)
+loop-again c = let inv = c .before .before .before .before .before .before .before .before .before .before .before .before .loop .inv in
+    let index = c .before .before .before .before .before .before .before .before .before .before .before .before .before .before .before .before .before .before .before .before .before .args .index in
+    let on = run-goes-on _ _ _ _ (counted (index .corrections) (index .count) (index .kind) (index .at) (index .correction)) _ _ _ _ _ (inv .5) (c .before .before .before .before .before .before .before .before .before .before .before .loop-test .taken) (c .before .before .before .before .before .before .before .before .before .lines-end .ensures .0 _ _) (inv .3) (c .before .before .before .before .before .before .before .before .is-marked .ensures) _ _ (c .before .before .before .before .correct-if .ensures _) (c .enum-told .given .1) in
+    let order = order-goes-on _ _ _ _ (counted (index .corrections) (index .count) (index .kind) (index .at) (index .correction)) _ _ _ _ _ (inv .5) (c .before .before .before .before .before .before .before .before .before .before .before .loop-test .taken) (c .before .before .before .before .before .before .before .before .before .lines-end .ensures .0 _ _) (inv .3) (c .before .before .before .before .before .before .before .before .is-marked .ensures) _ _ (c .before .before .before .before .correct-if .ensures _) _ (c .enum-told .given .1) (inv .2) in
+    (search needs, (on .0, search needs), order, c .before .before .before .before .before .before .before .before .before .lines-end .ensures .1, inv .4, on .1)
 
-no-fault-requires : tie.Need-no-fault-requires Inv-loop μ-loop
-no-fault-requires c κs = search needs
+-- src/series.rt:128:9
+line-trouble-requires : tie.Need-line-trouble-requires Inv-loop μ-loop
+line-trouble-requires c κs = search needs
 
+-- src/series.rt:79:1
+same-length-2 : tie.Need-same-length-2 Inv-loop μ-loop
+same-length-2 c = search needs
+
+-- src/series.rt:79:1
 returns-2 : tie.Need-returns-2 Inv-loop μ-loop
-returns-2 c =
-    let inv = c .before .before .loop .inv in
-    run-ends _ _ _ _ _ _ _ _ _ (inv .4) (c .before .loop-test .left) (inv .0) _ refl refl
+returns-2 c = let inv = c .before .before .loop .inv in
+    let index = c .before .before .before .before .before .before .before .before .before .before .before .args .index in
+    subst (Comes _ _) (run-of-rows _ _ _ _ index _) (run-ends _ _ _ _ (counted (index .corrections) (index .count) (index .kind) (index .at) (index .correction)) _ _ _ _ _ (inv .5) (c .before .loop-test .left) (inv .1 .0) _ _ refl refl)
 
 pub run-marked-spec : {M : Type 1} → statement M
 run-marked-spec =
@@ -83,17 +123,22 @@ run-marked-spec =
     Inv-loop
     μ-loop
     loop-holds
+    slice-aggregate-lines-end
     add-lines-end
     lines-end-requires
     add-is-marked
     is-marked-requires
+    slice-aggregate-correct-if
+    slice-aggregate-correct-if-2
     add-correct-if
     correct-if-requires
     enum-told
     enum-told-2
+    same-length
     returns
     add-n
     loop-less
     loop-again
-    no-fault-requires
+    line-trouble-requires
+    same-length-2
     returns-2)

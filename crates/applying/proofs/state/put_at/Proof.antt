@@ -1,61 +1,73 @@
 -- The invariant: what is carried, put in where the loop stands, gives the answer. Assumes nothing.
-use Rattle.routes.specs.Sources.{inUse}
-use Rattle.applying.specs.State.{putAt}
 use lib.ListN.{length}
-use Prim.Native.Nat.{_≤_, _<_, _-_}
-use mathlib.Core.Path.{_≡_, _∙_}
 use Rattle.applying.proofs.ShiftLaws.{put-step, put-done}
+use mathlib.Core.Path.{_≡_, refl, _∙_}
+use Prim.Native.Nat.{_≤_, _<_, _-_}
+use Rattle.applying.specs.State.{putAt}
+use Rattle.routes.specs.Sources.{inUse}
 use borrow.Author.Needs.{needs}
 use native.Mathlib.Omega.{arith}
 use Rattle.applying.proofs.state.put_at.Statement.{statement}
 use Rattle.applying.proofs.state.put_at.Tie as tie
+use Rattle.applying.proofs.state.put_at.Reads as reads
+use Rattle.applying.proofs.state.put_at.Lts as lts
 
 abbrev Inv-loop : tie.InvT-loop
-Inv-loop i source state₀ count carried₀ k₀ state carried k = (i ≤ count) × (count < 480) × (k ≤ count) × (length (state .at) ≡ 480) × (putAt k carried (state .at) ≡ putAt i source (state₀ .at)) × (count ≡ state₀ .count)
+Inv-loop at₀ count i source carried₀ k₀ at carried k = (i ≤ count) × (count < 480) × (k ≤ count) × (length at ≡ 480) × (length at ≡ length at₀) × (putAt k carried at ≡ putAt i source at₀)
 
 abbrev μ-loop : tie.MeasureT-loop
-μ-loop i source state₀ count carried₀ k₀ state carried k = count - k
+μ-loop at₀ count i source carried₀ k₀ at carried k = count - k
 
+-- src/state.rt:218:5
 loop-holds : tie.Need-loop-holds Inv-loop μ-loop
-loop-holds c = search needs
+loop-holds c = (c .pre .0, c .pre .1, c .pre .0, c .pre .2, refl, refl)
 
+-- src/state.rt:219:20
 mul-next : tie.Need-mul-next Inv-loop μ-loop
 mul-next c = search needs
 
-element-copy-out-next : tie.Need-element-copy-out-next Inv-loop μ-loop
-element-copy-out-next c = search needs
+-- src/state.rt:219:20
+slice-read-next : tie.Need-slice-read-next Inv-loop μ-loop
+slice-read-next c = search needs
 
-mul-state : tie.Need-mul-state Inv-loop μ-loop
-mul-state c = search needs
+-- src/state.rt:220:9
+mul-at : tie.Need-mul-at Inv-loop μ-loop
+mul-at c = search needs
 
-element-write-state : tie.Need-element-write-state Inv-loop μ-loop
-element-write-state c = search needs
+-- src/state.rt:220:9
+slice-write-at : tie.Need-slice-write-at Inv-loop μ-loop
+slice-write-at c = search needs
 
+-- src/state.rt:222:9
 add-k : tie.Need-add-k Inv-loop μ-loop
 add-k c = search needs
 
+-- src/state.rt:218:5
 loop-less : tie.Need-loop-less Inv-loop μ-loop
 loop-less c = search needs
 
+-- src/state.rt:218:5
 loop-again : tie.Need-loop-again Inv-loop μ-loop
-loop-again c =
-    let l = c .before .before .loop in
-    (search needs, search needs, search needs, search needs, put-step _ _ _ (omega arith) ∙ l .inv .4, l .inv .5)
+loop-again c = let inv = c .before .before .loop .inv in
+    (inv .0, inv .1, omega (arith, c .before .loop-test .taken), search needs, search needs, put-step _ _ _ (omega (arith, c .before .loop-test .taken, inv .1, inv .3)) ∙ inv .5)
 
-mul-state-2 : tie.Need-mul-state-2 Inv-loop μ-loop
-mul-state-2 c = search needs
+-- src/state.rt:224:5
+mul-at-2 : tie.Need-mul-at-2 Inv-loop μ-loop
+mul-at-2 c = search needs
 
-element-write-state-2 : tie.Need-element-write-state-2 Inv-loop μ-loop
-element-write-state-2 c = search needs
+-- src/state.rt:224:5
+slice-write-at-2 : tie.Need-slice-write-at-2 Inv-loop μ-loop
+slice-write-at-2 c = search needs
 
-add-state : tie.Need-add-state Inv-loop μ-loop
-add-state c = search needs
+-- src/state.rt:212:1
+same-length : tie.Need-same-length Inv-loop μ-loop
+same-length c = search needs
 
+-- src/state.rt:212:1
 returns : tie.Need-returns Inv-loop μ-loop
 unfolding inUse
-returns c =
-    let l = c .before .loop in
-    (put-done _ _ _ _ _ _ (c .before .before .args .t1 .count) (l .inv .4) (omega arith) (omega arith) (omega arith) (l .inv .3) (search needs), omega arith)
+returns c = let inv = c .before .loop .inv in
+    put-done _ _ _ _ _ _ (c .before .before .args .count) (inv .5) (omega (arith, inv .2, c .loop-test .left)) (inv .0) (inv .1) (inv .3) (c .before .before .pre .2)
 
 pub put-at-spec : {M : Type 1} → statement M
 put-at-spec =
@@ -65,13 +77,13 @@ put-at-spec =
     μ-loop
     loop-holds
     mul-next
-    element-copy-out-next
-    mul-state
-    element-write-state
+    slice-read-next
+    mul-at
+    slice-write-at
     add-k
     loop-less
     loop-again
-    mul-state-2
-    element-write-state-2
-    add-state
+    mul-at-2
+    slice-write-at-2
+    same-length
     returns)
