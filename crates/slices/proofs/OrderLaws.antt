@@ -3,13 +3,13 @@
 -- Assumes nothing.
 use mathlib.Core.Path.{_≡_, refl, sym, ap, _∙_}
 use mathlib.Core.Logic.{_⊎_, inl, inr, ⊎-elim, _↔_}
-use mathlib.Core.Bool.{Bool, true, false, cond}
+use mathlib.Core.Bool.{Bool, true, false, cond, _&&_}
 use mathlib.Core.List.{List, [], _∷_, _++_}
 use Prim.Native.Nat.{ℕ, _≤_, _<_}
 use native.Mathlib.Omega.{arith}
-use lib.Dec.{ltb}
+use lib.Dec.{ltb, eqb}
 use lib.ListN.{length}
-use borrow.Author.Tests.{ltb-true, ltb-false, lt-ltb, le-ltb}
+use borrow.Author.Tests.{ltb-true, ltb-false, lt-ltb, le-ltb, eq-eqb, ne-eqb}
 use Rattle.slices.specs.Order.{order, isEqual, equal}
 use Rattle.slices.specs.declared.Ordering.{Ordering}
 use Rattle.slices.specs.declared.Ordering.the-variants.{Less, Equal, Greater}
@@ -160,3 +160,22 @@ order-append [] (y ∷ ys) xs′ ys′ h = absurd (omega arith)
 order-append (x ∷ xs) [] xs′ ys′ h = absurd (omega arith)
 order-append (x ∷ xs) (y ∷ ys) xs′ ys′ h =
     append-of x y xs ys xs′ ys′ (order (x ∷ xs) (y ∷ ys)) (way x y xs ys) (order-append xs ys xs′ ys′ (omega arith))
+
+equal-after : (o p : Ordering) → isEqual (after o p) ≡ (isEqual o && isEqual p)
+equal-after Less p = refl
+equal-after Equal p = refl
+equal-after Greater p = refl
+
+pub equal-append : (xs ys xs′ ys′ : List ℕ) → length xs ≡ length ys → equal (xs ++ xs′) (ys ++ ys′) ≡ (equal xs ys && equal xs′ ys′)
+unfolding equal
+equal-append xs ys xs′ ys′ h = ap isEqual (order-append xs ys xs′ ys′ h) ∙ equal-after (order xs ys) (order xs′ ys′)
+
+-- lists of one byte
+pub equal-one : (x y : ℕ) → equal (x ∷ []) (y ∷ []) ≡ eqb x y
+unfolding equal order
+equal-one x y = by (order (x ∷ []) (y ∷ [])) (way x y [] [])
+  where
+    by : (o : Ordering) → Way x y Equal o → isEqual o ≡ eqb x y
+    by _ (less h) = sym (ne-eqb x y (λ e. omega arith))
+    by _ (greater h) = sym (ne-eqb x y (λ e. omega arith))
+    by _ (level h) = sym (eq-eqb x y h)

@@ -1,20 +1,35 @@
 -- One turn of the loops that compare, that look for blanks and that look for a byte, as an equation between what is left before it
--- and after it.
+-- and after it. Whether a run lies within a list, by a test that does not overflow.
 -- Assumes nothing.
-use mathlib.Core.Path.{_≡_, _∙_}
-use mathlib.Core.Bool.{Bool, true, false, _&&_, _||_}
-use mathlib.Core.List.{List, _∷_}
-use Prim.Native.Nat.{ℕ, _+_, _-_, _≤_, _<_}
+use mathlib.Core.Path.{_≡_, refl, sym, ap, _∙_}
+use mathlib.Core.Bool.{Bool, true, false, _&&_, _||_, and-true, and-false}
+use mathlib.Core.List.{List, [], _∷_, _++_}
+use Prim.Native.Nat.{ℕ, zero, suc, _+_, _-_, _≤_, _<_}
 use native.Mathlib.Omega.{arith}
-use lib.Dec.{eqb}
-use lib.ListN.{getD}
-use borrow.Author.Tests.{eq-eqb, ne-eqb}
+use lib.Dec.{eqb, leb, eqb·suc-zero}
+use lib.ListN.{getD, length, List·getD-eq-default}
+use borrow.Author.Tests.{eqb-true, eq-eqb, ne-eqb, leb-true, leb-false, le-leb, lt-leb}
 use Rattle.slices.specs.Part.{part, blank, member}
-use Rattle.slices.specs.Order.{order}
+use Rattle.slices.specs.Order.{order, equal}
 use Rattle.slices.specs.declared.Ordering.{Ordering}
 use Rattle.slices.specs.declared.Ordering.the-variants.{Less, Equal, Greater}
-use Rattle.slices.proofs.PartLaws.{part-next, part-done, part-whole}
-use Rattle.slices.proofs.OrderLaws.{order-less, order-greater, order-level}
+use Rattle.slices.proofs.Cases.{split, and-left, and-right}
+use Rattle.slices.proofs.PartLaws.{part-next, part-done, part-whole, part-append, length-part}
+use Rattle.slices.proofs.OrderLaws.{order-less, order-greater, order-level, equal-append, equal-one}
+
+-- that n places from i on lie within m
+pub lies-from : (i n m : ℕ) → i ≤ m → leb n (m - i) ≡ leb (i + n) m
+lies-from i n m h =
+    split (leb n (m - i))
+    (λ e. let k : n ≤ m - i = leb-true n (m - i) e in e ∙ sym (le-leb (i + n) m (omega arith)))
+    (λ e. let k : m - i < n = leb-false n (m - i) e in e ∙ sym (lt-leb (i + n) m (omega arith)))
+
+pub lies-past : (i n m : ℕ) → m < i → false ≡ leb (i + n) m
+lies-past i n m h = sym (lt-leb (i + n) m (omega arith))
+
+pub both-lie : (i n m j k : ℕ) {s t : Bool} → s ≡ leb (i + n) m → t ≡ leb (j + n) k → (s && t) ≡ true → (i + n ≤ m) × (j + n ≤ k)
+both-lie i n m j k {s} {t} hs ht h =
+    (leb-true (i + n) m (sym hs ∙ and-left s t h), leb-true (j + n) k (sym ht ∙ and-right s t h))
 
 -- two runs of n bytes, of which k are passed
 pub comparing : List ℕ → ℕ → List ℕ → ℕ → ℕ → ℕ → Ordering
@@ -43,6 +58,28 @@ module _ (a : List ℕ) (i : ℕ) (b : List ℕ) (j n k : ℕ) (h : k < n) {x y 
   unfolding comparing
   comparing-next p q = comparing-cons ∙ order-level x y _ _ (omega arith)
 
+-- two runs of n bytes of which the last was looked at
+module _ (a : List ℕ) (i : ℕ) (b : List ℕ) (j n : ℕ) (h : 0 < n) {x y : ℕ} (hx : x ≡ getD a (i + (n - 1)) 0) (hy : y ≡ getD b (j + (n - 1)) 0) where
+  same-last : equal (part n i a) (part n j b) ≡ (equal (part (n - 1) i a) (part (n - 1) j b) && eqb x y)
+  unfolding part
+  same-last =
+      rw (last-of i a x hx, last-of j b y hy)
+      (equal-append (part (n - 1) i a) (part (n - 1) j b) (x ∷ []) (y ∷ []) (length-part (n - 1) i a ∙ sym (length-part (n - 1) j b))
+      ∙ rw (equal-one x y))
+    where
+      last-of : (i : ℕ) (a : List ℕ) (x : ℕ) → x ≡ getD a (i + (n - 1)) 0 → part n i a ≡ part (n - 1) i a ++ (x ∷ [])
+      last-of i a x hx = let e : n ≡ n - 1 + 1 = omega arith in rw hx (ap (λ (m : ℕ). part m i a) e ∙ part-append (n - 1) 1 i a)
+
+  pub same-stop : (x ≡ y → ⊥) → false ≡ equal (part n i a) (part n j b)
+  same-stop e = sym (same-last ∙ rw (ne-eqb x y e) (and-false (equal (part (n - 1) i a) (part (n - 1) j b))))
+
+  pub same-next : x ≡ y → equal (part n i a) (part n j b) ≡ equal (part (n - 1) i a) (part (n - 1) j b)
+  same-next e = same-last ∙ rw (eq-eqb x y e) (and-true (equal (part (n - 1) i a) (part (n - 1) j b)))
+
+pub same-none : (a : List ℕ) (i : ℕ) (b : List ℕ) (j n : ℕ) → n ≤ 0 → equal (part n i a) (part n j b) ≡ true
+unfolding part order equal
+same-none a i b j n h = let e : n ≡ 0 = omega arith in rw e
+
 -- a run of n bytes, of which k were blanks
 pub blankLeft : List ℕ → ℕ → ℕ → ℕ → Bool
 blankLeft s i n k = blank (part (n - k) (i + k) s)
@@ -65,6 +102,17 @@ module _ (s : List ℕ) (i n k : ℕ) (h : k < n) {x : ℕ} (hx : x ≡ getD s (
 
   pub blank-next : x ≡ 32 → blankLeft s i n k ≡ blankLeft s i n (k + 1)
   blank-next e = blank-cons ∙ rw e
+
+-- a run that goes past the end has a byte that is none
+none-past : (s : List ℕ) (i n : ℕ) → length s < i + suc n → blank (part (suc n) i s) ≡ false
+unfolding part blank
+none-past s i zero h = rw (List·getD-eq-default s 0 {n = i} (omega arith))
+none-past s i (suc n) h = ap (λ (t : Bool). eqb (getD s i 0) 32 && t) (none-past s (suc i) n (omega arith)) ∙ and-false (eqb (getD s i 0) 32)
+
+pub blank-past : (s : List ℕ) (i n : ℕ) → leb (i + n) (length s) ≡ false → eqb n 0 ≡ blank (part n i s)
+unfolding part blank
+blank-past s i zero h = refl
+blank-past s i (suc n) h = eqb·suc-zero n ∙ sym (none-past s i n (leb-false (i + suc n) (length s) h))
 
 -- a run of n bytes, of which k were not b
 pub memberLeft : List ℕ → ℕ → ℕ → ℕ → ℕ → Bool

@@ -2,8 +2,9 @@
 // that is put past it is dropped, so no function here asks anything of its caller.
 ghost use mathlib.Core.Path.{_≡_};
 ghost use mathlib.Core.List.{_++_};
-ghost use Prim.Native.Nat.{_+_, _-_, min};
+ghost use Prim.Native.Nat.{_+_, _-_, _≤_, min};
 ghost use lib.ListN.{getD, length, set, take, drop, replicate};
+ghost use lib.Dec.{leb};
 ghost use lib.Seq.{sets};
 ghost use Rattle.slices.specs.Part.{part, blank, member};
 ghost use Rattle.slices.specs.Order.{order, equal};
@@ -52,8 +53,30 @@ pub fn put_after(out: &mut [u8], i: usize, k: usize, b: u8)
     }
 }
 
+// Whether the n bytes from i on lie within the slice; i + n may be larger than any usize.
+fn lies(s: &[u8], i: usize, n: usize) -> bool
+    ensures { λ r. ⌜ r ≡ leb (i + n) (length (now (s .entry))) ⌝ }
+{
+    if i <= s.len() {
+        n <= s.len() - i
+    } else {
+        false
+    }
+}
+
 // How the n bytes of a from i on stand to the n bytes of b from j on, by the first that differs.
 pub fn compare(a: &[u8], i: usize, b: &[u8], j: usize, n: usize) -> Ordering
+    ensures { λ r. ⌜ r ≡ order (part n i (now (a .entry))) (part n j (now (b .entry))) ⌝ }
+{
+    if lies(a, i, n) & lies(b, j, n) {
+        compare_within(a, i, b, j, n)
+    } else {
+        compare_past(a, i, b, j, n)
+    }
+}
+
+// The same of bytes that may be past an end.
+fn compare_past(a: &[u8], i: usize, b: &[u8], j: usize, n: usize) -> Ordering
     ensures { λ r. ⌜ r ≡ order (part n i (now (a .entry))) (part n j (now (b .entry))) ⌝ }
 {
     let mut k = 0;
@@ -71,11 +94,35 @@ pub fn compare(a: &[u8], i: usize, b: &[u8], j: usize, n: usize) -> Ordering
     Ordering::Equal
 }
 
+// The same of bytes that lie within.
+fn compare_within(a: &[u8], i: usize, b: &[u8], j: usize, n: usize) -> Ordering
+    requires { ⌜ (i + n ≤ length (now a)) × (j + n ≤ length (now b)) ⌝ }
+    ensures { λ r. ⌜ r ≡ order (part n i (now (a .entry))) (part n j (now (b .entry))) ⌝ }
+{
+    let mut k = 0;
+    while k < n {
+        let x = a[i + k];
+        let y = b[j + k];
+        if x != y {
+            return if x < y {
+                Ordering::Less
+            } else {
+                Ordering::Greater
+            };
+        }
+        k += 1;
+    }
+    Ordering::Equal
+}
+
 // Whether the n bytes of a from i on are the n bytes of b from j on.
 pub fn same(a: &[u8], i: usize, b: &[u8], j: usize, n: usize) -> bool
     ensures { λ r. ⌜ r ≡ equal (part n i (now (a .entry))) (part n j (now (b .entry))) ⌝ }
 {
-    let way = compare(a, i, b, j, n);
+    if lies(a, i, n) & lies(b, j, n) {
+        return same_within(a, i, b, j, n);
+    }
+    let way = compare_past(a, i, b, j, n);
     match way {
         Ordering::Less => false,
         Ordering::Equal => true,
@@ -83,13 +130,40 @@ pub fn same(a: &[u8], i: usize, b: &[u8], j: usize, n: usize) -> bool
     }
 }
 
-// Whether the n bytes from i on are all blanks.
+// The same of bytes that lie within, from the last on: keys that are held against each other differ late.
+fn same_within(a: &[u8], i: usize, b: &[u8], j: usize, n: usize) -> bool
+    requires { ⌜ (i + n ≤ length (now a)) × (j + n ≤ length (now b)) ⌝ }
+    ensures { λ r. ⌜ r ≡ equal (part n i (now (a .entry))) (part n j (now (b .entry))) ⌝ }
+{
+    let mut left = n;
+    while 0 < left {
+        left -= 1;
+        if a[i + left] != b[j + left] {
+            return false;
+        }
+    }
+    true
+}
+
+// Whether the n bytes from i on are all blanks. None past the end is one.
 pub fn is_blank(s: &[u8], i: usize, n: usize) -> bool
+    ensures { λ r. ⌜ r ≡ blank (part n i (now (s .entry))) ⌝ }
+{
+    if lies(s, i, n) {
+        blank_within(s, i, n)
+    } else {
+        n == 0
+    }
+}
+
+// The same of bytes that lie within.
+fn blank_within(s: &[u8], i: usize, n: usize) -> bool
+    requires { ⌜ i + n ≤ length (now s) ⌝ }
     ensures { λ r. ⌜ r ≡ blank (part n i (now (s .entry))) ⌝ }
 {
     let mut k = 0;
     while k < n {
-        if byte_after(s, i, k) != 32 {
+        if s[i + k] != 32 {
             return false;
         }
         k += 1;
@@ -99,6 +173,17 @@ pub fn is_blank(s: &[u8], i: usize, n: usize) -> bool
 
 // Whether one of the n bytes from i on is b.
 pub fn has(s: &[u8], i: usize, n: usize, b: u8) -> bool
+    ensures { λ r. ⌜ r ≡ member b (part n i (now (s .entry))) ⌝ }
+{
+    if lies(s, i, n) {
+        has_within(s, i, n, b)
+    } else {
+        has_past(s, i, n, b)
+    }
+}
+
+// The same of bytes that may be past the end.
+fn has_past(s: &[u8], i: usize, n: usize, b: u8) -> bool
     ensures { λ r. ⌜ r ≡ member b (part n i (now (s .entry))) ⌝ }
 {
     let mut k = 0;
@@ -111,14 +196,52 @@ pub fn has(s: &[u8], i: usize, n: usize, b: u8) -> bool
     false
 }
 
+// The same of bytes that lie within.
+fn has_within(s: &[u8], i: usize, n: usize, b: u8) -> bool
+    requires { ⌜ i + n ≤ length (now s) ⌝ }
+    ensures { λ r. ⌜ r ≡ member b (part n i (now (s .entry))) ⌝ }
+{
+    let mut k = 0;
+    while k < n {
+        if s[i + k] == b {
+            return true;
+        }
+        k += 1;
+    }
+    false
+}
+
 // Copies the n bytes of from that begin at i over those of out that begin at `at`.
 pub fn copy(from: &[u8], i: usize, out: &mut [u8], at: usize, n: usize)
+    ensures { λ _. ⌜ now (out .exit) ≡ sets (now (out .entry)) at (part n i (now (from .entry))) ⌝ }
+{
+    if lies(from, i, n) & lies(out, at, n) {
+        copy_within(from, i, out, at, n);
+    } else {
+        copy_past(from, i, out, at, n);
+    }
+}
+
+// The same of bytes, or to places, that may be past an end.
+fn copy_past(from: &[u8], i: usize, out: &mut [u8], at: usize, n: usize)
     ensures { λ _. ⌜ now (out .exit) ≡ sets (now (out .entry)) at (part n i (now (from .entry))) ⌝ }
 {
     let mut k = 0;
     while k < n {
         let b = byte_after(from, i, k);
         put_after(out, at, k, b);
+        k += 1;
+    }
+}
+
+// The same of bytes that lie within, to places that do.
+fn copy_within(from: &[u8], i: usize, out: &mut [u8], at: usize, n: usize)
+    requires { ⌜ (i + n ≤ length (now from)) × (at + n ≤ length (now out)) ⌝ }
+    ensures { λ _. ⌜ now (out .exit) ≡ sets (now (out .entry)) at (part n i (now (from .entry))) ⌝ }
+{
+    let mut k = 0;
+    while k < n {
+        out[at + k] = from[i + k];
         k += 1;
     }
 }

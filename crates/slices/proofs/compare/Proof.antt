@@ -1,73 +1,34 @@
--- The invariant: what is left to compare decides the answer. Assumes nothing.
+-- The test says that both runs lie within. Assumes nothing.
 use borrow.Author.Needs.{needs}
-use mathlib.Core.Path.{_≡_, sym, _∙_}
-use Prim.Native.Nat.{_≤_, _-_}
-use Rattle.slices.specs.Part.{part}
-use Rattle.slices.specs.Order.{order}
-use Rattle.slices.proofs.Turns.{comparing, comparing-start, comparing-less, comparing-greater, comparing-next, comparing-end}
+use Rattle.slices.proofs.Turns.{both-lie}
 use Rattle.slices.proofs.compare.Statement.{statement}
 use Rattle.slices.proofs.compare.Tie as tie
 
-abbrev Inv-loop : tie.InvT-loop
-Inv-loop a i b j n k₀ k = (k ≤ n) × (order (part n i a) (part n j b) ≡ comparing a i b j n k)
+lies-requires : tie.Need-lies-requires
+lies-requires c κs = search needs
 
-abbrev μ-loop : tie.MeasureT-loop
-μ-loop a i b j n k₀ k = n - k
+lies-requires-2 : tie.Need-lies-requires-2
+lies-requires-2 c κs = search needs
 
-loop-holds : tie.Need-loop-holds Inv-loop μ-loop
-loop-holds c = (search needs, comparing-start _ _ _ _ _)
+compare-within-requires : tie.Need-compare-within-requires
+compare-within-requires c κs = both-lie _ _ _ _ _ (c .before .before .lies .ensures) (c .before .lies2 .ensures) (c .if1 .taken)
 
-byte-after-requires : tie.Need-byte-after-requires Inv-loop μ-loop
-byte-after-requires c κs = search needs
+compare-past-requires : tie.Need-compare-past-requires
+compare-past-requires c κs = search needs
 
-byte-after-requires-2 : tie.Need-byte-after-requires-2 Inv-loop μ-loop
-byte-after-requires-2 c κs = search needs
+returns : tie.Need-returns
+returns c = search needs
 
-returns : tie.Need-returns Inv-loop μ-loop
-returns c =
-    let turn = c .before .before .before in
-    sym
-    (turn .before .loop .inv .1
-    ∙ comparing-less _ _ _ _ _ _ (turn .loop-test .taken) (c .before .before .byte-after .ensures) (c .before .byte-after2 .ensures) (c .if1 .taken))
-
-returns-2 : tie.Need-returns-2 Inv-loop μ-loop
-returns-2 c =
-    let turn = c .before .before .before .before in
-    let reads = c .before .before in
-    sym
-    (turn .before .loop .inv .1
-    ∙ comparing-greater _ _ _ _ _ _ (turn .loop-test .taken) (reads .before .byte-after .ensures) (reads .byte-after2 .ensures) (c .if2 .taken))
-
-add-k : tie.Need-add-k Inv-loop μ-loop
-add-k c = search needs
-
-loop-less : tie.Need-loop-less Inv-loop μ-loop
-loop-less c = search needs
-
-loop-again : tie.Need-loop-again Inv-loop μ-loop
-loop-again c =
-    let turn = c .before .before .before .before in
-    let reads = c .before .before in (
-      search needs,
-      turn .before .loop .inv .1
-          ∙ comparing-next _ _ _ _ _ _ (turn .loop-test .taken) (reads .before .byte-after .ensures) (reads .byte-after2 .ensures) (c .before .if1 .left) (c .if2 .left),
-    )
-
-returns-3 : tie.Need-returns-3 Inv-loop μ-loop
-returns-3 c = sym (c .before .loop .inv .1 ∙ comparing-end _ _ _ _ _ _ (c .loop-test .left))
+returns-2 : tie.Need-returns-2
+returns-2 c = search needs
 
 pub compare-spec : {M : Type 1} → statement M
 compare-spec =
     tie.close
     (tie.spec
-    Inv-loop
-    μ-loop
-    loop-holds
-    byte-after-requires
-    byte-after-requires-2
+    lies-requires
+    lies-requires-2
+    compare-within-requires
+    compare-past-requires
     returns
-    returns-2
-    add-k
-    loop-less
-    loop-again
-    returns-3)
+    returns-2)

@@ -1,60 +1,44 @@
--- The invariant: what is left to copy gives the answer. Assumes nothing.
+-- The test says that the bytes and their places lie within. Assumes nothing.
 use borrow.Author.Needs.{needs}
-use mathlib.Core.Path.{_≡_, sym, ap, _∙_}
-use Prim.Native.Nat.{_≤_, _-_}
-use Rattle.slices.specs.Part.{part}
-use lib.ListN.{length}
-use lib.Seq.{sets, length-sets}
-use Rattle.slices.proofs.WriteLaws.{copied, copied-start, copied-next, copied-end}
+use Rattle.slices.proofs.Turns.{both-lie}
 use Rattle.slices.proofs.copy.Statement.{statement}
 use Rattle.slices.proofs.copy.Tie as tie
 
-abbrev Inv-loop : tie.InvT-loop
-Inv-loop from i out₀ at n k₀ out k = (k ≤ n) × (sets out₀ at (part n i from) ≡ copied from i at n out k)
+lies-requires : tie.Need-lies-requires
+lies-requires c κs = search needs
 
-abbrev μ-loop : tie.MeasureT-loop
-μ-loop from i out₀ at n k₀ out k = n - k
+lies-requires-2 : tie.Need-lies-requires-2
+lies-requires-2 c κs = search needs
 
-loop-holds : tie.Need-loop-holds Inv-loop μ-loop
-loop-holds c = (search needs, sym (copied-start _ _ _ _ _))
+copy-within-requires : tie.Need-copy-within-requires
+copy-within-requires c κs =
+    let tests = c .before .before in
+    both-lie _ _ _ _ _ (tests .before .before .lies .ensures) (tests .lies2 .ensures) (c .before .if1 .taken)
 
-byte-after-requires : tie.Need-byte-after-requires Inv-loop μ-loop
-byte-after-requires c κs = search needs
+copy-past-requires : tie.Need-copy-past-requires
+copy-past-requires c κs = search needs
 
-put-after-requires : tie.Need-put-after-requires Inv-loop μ-loop
-put-after-requires c κs = search needs
+same-length : tie.Need-same-length
+same-length c = search needs
 
-add-k : tie.Need-add-k Inv-loop μ-loop
-add-k c = search needs
+returns : tie.Need-returns
+returns c = search needs
 
-loop-less : tie.Need-loop-less Inv-loop μ-loop
-loop-less c = search needs
+same-length-2 : tie.Need-same-length-2
+same-length-2 c = search needs
 
-loop-again : tie.Need-loop-again Inv-loop μ-loop
-loop-again c =
-    let turn = c .before .before .before .before .before in (
-      search needs,
-      turn .before .loop .inv .1
-          ∙ copied-next _ _ _ _ _ _ (turn .loop-test .taken) (c .before .before .before .before .byte-after .ensures) (c .before .before .put-after .ensures),
-    )
-
-same-length : tie.Need-same-length Inv-loop μ-loop
-same-length c = ap length (sym (c .before .loop .inv .1 ∙ copied-end _ _ _ _ _ _ (c .loop-test .left))) ∙ simp length-sets
-
-returns : tie.Need-returns Inv-loop μ-loop
-returns c = sym (c .before .loop .inv .1 ∙ copied-end _ _ _ _ _ _ (c .loop-test .left))
+returns-2 : tie.Need-returns-2
+returns-2 c = search needs
 
 pub copy-spec : {M : Type 1} → statement M
 copy-spec =
     tie.close
     (tie.spec
-    Inv-loop
-    μ-loop
-    loop-holds
-    byte-after-requires
-    put-after-requires
-    add-k
-    loop-less
-    loop-again
+    lies-requires
+    lies-requires-2
+    copy-within-requires
+    copy-past-requires
     same-length
-    returns)
+    returns
+    same-length-2
+    returns-2)

@@ -1,52 +1,22 @@
--- The invariant: what is left to look at decides the answer. Assumes nothing.
+-- The test says that the run lies within, or that a byte of it, if it has any, is past the end. Assumes nothing.
 use borrow.Author.Needs.{needs}
-use mathlib.Core.Path.{_≡_, sym, _∙_}
-use Prim.Native.Nat.{_≤_, _-_}
-use Rattle.slices.specs.Part.{part}
-use Rattle.slices.specs.Part.{blank}
-use Rattle.slices.proofs.Turns.{blankLeft, blank-start, blank-next, blank-stop, blank-end}
+use mathlib.Core.Path.{sym, _∙_}
+use borrow.Author.Tests.{leb-true}
+use Rattle.slices.proofs.Turns.{blank-past}
 use Rattle.slices.proofs.is_blank.Statement.{statement}
 use Rattle.slices.proofs.is_blank.Tie as tie
 
-abbrev Inv-loop : tie.InvT-loop
-Inv-loop s i n k₀ k = (k ≤ n) × (blank (part n i s) ≡ blankLeft s i n k)
+lies-requires : tie.Need-lies-requires
+lies-requires c κs = search needs
 
-abbrev μ-loop : tie.MeasureT-loop
-μ-loop s i n k₀ k = n - k
+blank-within-requires : tie.Need-blank-within-requires
+blank-within-requires c κs = leb-true _ _ (sym (c .before .lies .ensures) ∙ c .if1 .taken)
 
-loop-holds : tie.Need-loop-holds Inv-loop μ-loop
-loop-holds c = (search needs, blank-start _ _ _)
+returns : tie.Need-returns
+returns c = search needs
 
-byte-after-requires : tie.Need-byte-after-requires Inv-loop μ-loop
-byte-after-requires c κs = search needs
-
-returns : tie.Need-returns Inv-loop μ-loop
-returns c = sym (c .before .before .before .loop .inv .1 ∙ blank-stop _ _ _ _ (c .before .before .loop-test .taken) (c .before .byte-after .ensures) (c .if1 .taken))
-
-add-k : tie.Need-add-k Inv-loop μ-loop
-add-k c = search needs
-
-loop-less : tie.Need-loop-less Inv-loop μ-loop
-loop-less c = search needs
-
-loop-again : tie.Need-loop-again Inv-loop μ-loop
-loop-again c =
-    let turn = c .before .before in
-    (search needs, turn .before .loop .inv .1 ∙ blank-next _ _ _ _ (turn .loop-test .taken) (c .before .byte-after .ensures) (c .if1 .left))
-
-returns-2 : tie.Need-returns-2 Inv-loop μ-loop
-returns-2 c = sym (c .before .loop .inv .1 ∙ blank-end _ _ _ _ (c .loop-test .left))
+returns-2 : tie.Need-returns-2
+returns-2 c = blank-past _ _ _ (sym (c .before .lies .ensures) ∙ c .if1 .left)
 
 pub is-blank-spec : {M : Type 1} → statement M
-is-blank-spec =
-    tie.close
-    (tie.spec
-    Inv-loop
-    μ-loop
-    loop-holds
-    byte-after-requires
-    returns
-    add-k
-    loop-less
-    loop-again
-    returns-2)
+is-blank-spec = tie.close (tie.spec lies-requires blank-within-requires returns returns-2)
