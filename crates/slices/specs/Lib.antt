@@ -2,3 +2,4 @@
 pub mod Part
 pub mod Order
 pub mod Search
+pub mod Joined

@@ -1,14 +1,18 @@
 // Reading, comparing and writing runs of bytes, at every place of every slice. A byte past a slice's end reads as 0, and a byte
 // that is put past it is dropped, so no function here asks anything of its caller.
+mod words;
+
 ghost use mathlib.Core.Path.{_≡_};
+ghost use mathlib.Core.Bool.{cond};
 ghost use mathlib.Core.List.{_++_};
 ghost use Prim.Native.Nat.{_+_, _-_, _≤_, min};
 ghost use lib.ListN.{getD, length, set, take, drop, replicate};
-ghost use lib.Dec.{leb};
+ghost use lib.Dec.{leb, ltb};
 ghost use lib.Seq.{sets};
 ghost use Rattle.slices.specs.Part.{part, blank, member};
 ghost use Rattle.slices.specs.Order.{order, equal};
 ghost use Rattle.slices.specs.Search.{firstAt, isLineFeed};
+use words::same_word;
 
 pub enum Ordering {
     Less,
@@ -69,13 +73,28 @@ pub fn compare(a: &[u8], i: usize, b: &[u8], j: usize, n: usize) -> Ordering
     ensures { λ r. ⌜ r ≡ order (part n i (now (a .entry))) (part n j (now (b .entry))) ⌝ }
 {
     if lies(a, i, n) & lies(b, j, n) {
-        compare_within(a, i, b, j, n)
+        if n < 8 {
+            compare_bytes(a, i, b, j, n)
+        } else {
+            compare_words(a, i, b, j, n)
+        }
     } else {
         compare_past(a, i, b, j, n)
     }
 }
 
-// The same of bytes that may be past an end.
+// How a byte stands to another that is not the same.
+fn way(x: u8, y: u8) -> Ordering
+    ensures { λ r. ⌜ r ≡ cond (ltb x y) Ordering.Less Ordering.Greater ⌝ }
+{
+    if x < y {
+        Ordering::Less
+    } else {
+        Ordering::Greater
+    }
+}
+
+// The order of bytes that may be past an end.
 fn compare_past(a: &[u8], i: usize, b: &[u8], j: usize, n: usize) -> Ordering
     ensures { λ r. ⌜ r ≡ order (part n i (now (a .entry))) (part n j (now (b .entry))) ⌝ }
 {
@@ -83,19 +102,16 @@ fn compare_past(a: &[u8], i: usize, b: &[u8], j: usize, n: usize) -> Ordering
     while k < n {
         let x = byte_after(a, i, k);
         let y = byte_after(b, j, k);
-        if x < y {
-            return Ordering::Less;
-        }
-        if y < x {
-            return Ordering::Greater;
+        if x != y {
+            return way(x, y);
         }
         k += 1;
     }
     Ordering::Equal
 }
 
-// The same of bytes that lie within.
-fn compare_within(a: &[u8], i: usize, b: &[u8], j: usize, n: usize) -> Ordering
+// The order of bytes that lie within.
+fn compare_bytes(a: &[u8], i: usize, b: &[u8], j: usize, n: usize) -> Ordering
     requires { ⌜ (i + n ≤ length (now a)) × (j + n ≤ length (now b)) ⌝ }
     ensures { λ r. ⌜ r ≡ order (part n i (now (a .entry))) (part n j (now (b .entry))) ⌝ }
 {
@@ -104,15 +120,26 @@ fn compare_within(a: &[u8], i: usize, b: &[u8], j: usize, n: usize) -> Ordering
         let x = a[i + k];
         let y = b[j + k];
         if x != y {
-            return if x < y {
-                Ordering::Less
-            } else {
-                Ordering::Greater
-            };
+            return way(x, y);
         }
         k += 1;
     }
     Ordering::Equal
+}
+
+// The same, past the words that are the same.
+fn compare_words(a: &[u8], i: usize, b: &[u8], j: usize, n: usize) -> Ordering
+    requires { ⌜ (i + n ≤ length (now a)) × (j + n ≤ length (now b)) ⌝ }
+    ensures { λ r. ⌜ r ≡ order (part n i (now (a .entry))) (part n j (now (b .entry))) ⌝ }
+{
+    let mut k = 0;
+    while k + 8 <= n {
+        if !same_word(a, i + k, b, j + k) {
+            break;
+        }
+        k += 8;
+    }
+    compare_bytes(a, i + k, b, j + k, n - k)
 }
 
 // Whether the n bytes of a from i on are the n bytes of b from j on.
@@ -120,8 +147,20 @@ pub fn same(a: &[u8], i: usize, b: &[u8], j: usize, n: usize) -> bool
     ensures { λ r. ⌜ r ≡ equal (part n i (now (a .entry))) (part n j (now (b .entry))) ⌝ }
 {
     if lies(a, i, n) & lies(b, j, n) {
-        return same_within(a, i, b, j, n);
+        if n < 8 {
+            same_bytes(a, i, b, j, n)
+        } else {
+            same_words(a, i, b, j, n)
+        }
+    } else {
+        same_past(a, i, b, j, n)
     }
+}
+
+// The same of bytes that may be past an end.
+fn same_past(a: &[u8], i: usize, b: &[u8], j: usize, n: usize) -> bool
+    ensures { λ r. ⌜ r ≡ equal (part n i (now (a .entry))) (part n j (now (b .entry))) ⌝ }
+{
     let way = compare_past(a, i, b, j, n);
     match way {
         Ordering::Less => false,
@@ -130,8 +169,8 @@ pub fn same(a: &[u8], i: usize, b: &[u8], j: usize, n: usize) -> bool
     }
 }
 
-// The same of bytes that lie within, from the last on: keys that are held against each other differ late.
-fn same_within(a: &[u8], i: usize, b: &[u8], j: usize, n: usize) -> bool
+// The same of bytes that lie within, from the last on: the keys of routes at one airport differ late.
+fn same_bytes(a: &[u8], i: usize, b: &[u8], j: usize, n: usize) -> bool
     requires { ⌜ (i + n ≤ length (now a)) × (j + n ≤ length (now b)) ⌝ }
     ensures { λ r. ⌜ r ≡ equal (part n i (now (a .entry))) (part n j (now (b .entry))) ⌝ }
 {
@@ -143,6 +182,21 @@ fn same_within(a: &[u8], i: usize, b: &[u8], j: usize, n: usize) -> bool
         }
     }
     true
+}
+
+// The same by words.
+fn same_words(a: &[u8], i: usize, b: &[u8], j: usize, n: usize) -> bool
+    requires { ⌜ (i + n ≤ length (now a)) × (j + n ≤ length (now b)) ⌝ }
+    ensures { λ r. ⌜ r ≡ equal (part n i (now (a .entry))) (part n j (now (b .entry))) ⌝ }
+{
+    let mut left = n;
+    while 8 <= left {
+        left -= 8;
+        if !same_word(a, i + left, b, j + left) {
+            return false;
+        }
+    }
+    same_bytes(a, i, b, j, left)
 }
 
 // Whether the n bytes from i on are all blanks. None past the end is one.
@@ -196,19 +250,18 @@ fn has_past(s: &[u8], i: usize, n: usize, b: u8) -> bool
     false
 }
 
-// The same of bytes that lie within.
+// The same of bytes that lie within. It looks at them all: the compiler takes many at once where no byte ends the loop.
 fn has_within(s: &[u8], i: usize, n: usize, b: u8) -> bool
     requires { ⌜ i + n ≤ length (now s) ⌝ }
     ensures { λ r. ⌜ r ≡ member b (part n i (now (s .entry))) ⌝ }
 {
+    let mut found = false;
     let mut k = 0;
     while k < n {
-        if s[i + k] == b {
-            return true;
-        }
+        found = found | (s[i + k] == b);
         k += 1;
     }
-    false
+    found
 }
 
 // Copies the n bytes of from that begin at i over those of out that begin at `at`.

@@ -10,8 +10,15 @@ lies-requires c κs = search needs
 lies-requires-2 : tie.Need-lies-requires-2
 lies-requires-2 c κs = search needs
 
-compare-within-requires : tie.Need-compare-within-requires
-compare-within-requires c κs = both-lie _ _ _ _ _ (c .before .before .lies .ensures) (c .before .lies2 .ensures) (c .if1 .taken)
+compare-bytes-requires : tie.Need-compare-bytes-requires
+compare-bytes-requires c κs =
+    let tests = c .before .before in
+    both-lie _ _ _ _ _ (tests .before .lies .ensures) (tests .lies2 .ensures) (c .before .if1 .taken)
+
+compare-words-requires : tie.Need-compare-words-requires
+compare-words-requires c κs =
+    let tests = c .before .before in
+    both-lie _ _ _ _ _ (tests .before .lies .ensures) (tests .lies2 .ensures) (c .before .if1 .taken)
 
 compare-past-requires : tie.Need-compare-past-requires
 compare-past-requires c κs = search needs
@@ -22,13 +29,18 @@ returns c = search needs
 returns-2 : tie.Need-returns-2
 returns-2 c = search needs
 
+returns-3 : tie.Need-returns-3
+returns-3 c = search needs
+
 pub compare-spec : {M : Type 1} → statement M
 compare-spec =
     tie.close
     (tie.spec
     lies-requires
     lies-requires-2
-    compare-within-requires
+    compare-bytes-requires
+    compare-words-requires
     compare-past-requires
     returns
-    returns-2)
+    returns-2
+    returns-3)

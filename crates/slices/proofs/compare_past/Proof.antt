@@ -4,7 +4,7 @@ use mathlib.Core.Path.{_≡_, sym, _∙_}
 use Prim.Native.Nat.{_≤_, _-_}
 use Rattle.slices.specs.Part.{part}
 use Rattle.slices.specs.Order.{order}
-use Rattle.slices.proofs.Turns.{comparing, comparing-start, comparing-less, comparing-greater, comparing-next, comparing-end}
+use Rattle.slices.proofs.Turns.{comparing, comparing-start, comparing-stop, comparing-next, comparing-end}
 use Rattle.slices.proofs.compare_past.Statement.{statement}
 use Rattle.slices.proofs.compare_past.Tie as tie
 
@@ -23,20 +23,17 @@ byte-after-requires c κs = search needs
 byte-after-requires-2 : tie.Need-byte-after-requires-2 Inv-loop μ-loop
 byte-after-requires-2 c κs = search needs
 
+way-requires : tie.Need-way-requires Inv-loop μ-loop
+way-requires c κs = search needs
+
 returns : tie.Need-returns Inv-loop μ-loop
 returns c =
-    let turn = c .before .before .before in
-    sym
-    (turn .before .loop .inv .1
-    ∙ comparing-less _ _ _ _ _ _ (turn .loop-test .taken) (c .before .before .byte-after .ensures) (c .before .byte-after2 .ensures) (c .if1 .taken))
-
-returns-2 : tie.Need-returns-2 Inv-loop μ-loop
-returns-2 c =
-    let turn = c .before .before .before .before in
     let reads = c .before .before in
-    sym
+    let turn = reads .before .before in
+    c .way .ensures
+    ∙ sym
     (turn .before .loop .inv .1
-    ∙ comparing-greater _ _ _ _ _ _ (turn .loop-test .taken) (reads .before .byte-after .ensures) (reads .byte-after2 .ensures) (c .if2 .taken))
+    ∙ comparing-stop _ _ _ _ _ _ (turn .loop-test .taken) (reads .before .byte-after .ensures) (reads .byte-after2 .ensures) (c .before .if1 .taken))
 
 add-k : tie.Need-add-k Inv-loop μ-loop
 add-k c = search needs
@@ -46,15 +43,15 @@ loop-less c = search needs
 
 loop-again : tie.Need-loop-again Inv-loop μ-loop
 loop-again c =
-    let turn = c .before .before .before .before in
-    let reads = c .before .before in (
+    let reads = c .before in
+    let turn = reads .before .before in (
       search needs,
       turn .before .loop .inv .1
-          ∙ comparing-next _ _ _ _ _ _ (turn .loop-test .taken) (reads .before .byte-after .ensures) (reads .byte-after2 .ensures) (c .before .if1 .left) (c .if2 .left),
+          ∙ comparing-next _ _ _ _ _ _ (turn .loop-test .taken) (reads .before .byte-after .ensures) (reads .byte-after2 .ensures) (c .if1 .left),
     )
 
-returns-3 : tie.Need-returns-3 Inv-loop μ-loop
-returns-3 c = sym (c .before .loop .inv .1 ∙ comparing-end _ _ _ _ _ _ (c .loop-test .left))
+returns-2 : tie.Need-returns-2 Inv-loop μ-loop
+returns-2 c = sym (c .before .loop .inv .1 ∙ comparing-end _ _ _ _ _ _ (c .loop-test .left))
 
 pub compare-past-spec : {M : Type 1} → statement M
 compare-past-spec =
@@ -65,9 +62,9 @@ compare-past-spec =
     loop-holds
     byte-after-requires
     byte-after-requires-2
+    way-requires
     returns
-    returns-2
     add-k
     loop-less
     loop-again
-    returns-3)
+    returns-2)
