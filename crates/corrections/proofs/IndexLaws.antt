@@ -4,21 +4,42 @@ use mathlib.Core.Path.{_≡_, refl, _∙_}
 use mathlib.Core.List.{List, [], _++_, map, map-append}
 use Prim.Native.Nat.{ℕ, _+_, _-_, _≤_, _<_}
 use native.Mathlib.Omega.{arith}
-use lib.ListN.{length, length-append, length-map}
+use lib.ListN.{length, replicate, length-append, length-map}
 use lib.Seq.{sets}
 use Rattle.slices.proofs.WriteLaws.{sets-append, stored-front}
+use Rattle.refusals.specs.declared.Verdict.the-variants.{Accepted}
 use Rattle.corrections.specs.declared.lines.Line.{Line}
-use Rattle.corrections.specs.declared.lines.Line.the-variants.{TakenOut, PutIn}
+use Rattle.corrections.specs.declared.lines.Line.the-variants.{Heading, TakenOut, PutIn, Stopped}
 use Rattle.corrections.specs.declared.Index.{Index}
-use Rattle.corrections.specs.Reading.{Entry, Reading, refused, said, entriesOf, withEntries, indexOf, grown}
+use Rattle.corrections.specs.Reading.{Entry, Reading, refused, said, begunAfter, changes, entriesOf, withEntries, letters, offsets, numbers, indexOf, grown}
 
 pub grown-none : (i : Index) → grown i (i .corrections) [] ≡ i
 unfolding grown
 grown-none i = let e : i .count + 0 ≡ i .count = omega arith in rw e
 
-pub grown-heading : (i : Index) → record { verdict = i .verdict; corrections = i .corrections + 1; count = i .count; kind = i .kind; at = i .at; correction = i .correction } ≡ grown i (i .corrections + 1) []
-unfolding grown
-grown-heading i = let e : i .count + 0 ≡ i .count = omega arith in rw e
+-- the index of an accepted log, by its columns
+abbrev pub index : (begun count : ℕ) (kind starts correction : List ℕ) → Index
+index begun count kind starts correction =
+    record { verdict = Accepted; corrections = begun; count = count; kind = kind; at = starts; correction = correction }
+
+pub index-start : index 0 0 (replicate 444 0) (replicate 444 0) (replicate 444 0) ≡ indexOf (said 0 [])
+unfolding indexOf
+index-start = refl
+
+-- what a line adds, stored in the columns
+as-many : (begun at : ℕ) (l : Line) → length (entriesOf begun at l) ≡ changes l
+as-many begun at Heading = refl
+as-many begun at TakenOut = refl
+as-many begun at PutIn = refl
+as-many begun at (Stopped column) = refl
+
+module _ (begun count at : ℕ) (kind starts correction : List ℕ) (l : Line) {begun′ count′ : ℕ} {kind′ starts′ correction′ : List ℕ} where
+  pub grown-by : begun′ ≡ begunAfter begun l → count′ ≡ count + changes l
+      → (kind′ ≡ sets kind count (letters (entriesOf begun at l))) × (starts′ ≡ sets starts count (offsets (entriesOf begun at l)))
+      × (correction′ ≡ sets correction count (numbers (entriesOf begun at l)))
+      → index begun′ count′ kind′ starts′ correction′ ≡ grown (index begun count kind starts correction) (begunAfter begun l) (entriesOf begun at l)
+  unfolding grown
+  grown-by p q r = rw (as-many begun at l) (rw (p, q, r .0, r .1, r .2))
 
 module _ (f : Entry → ℕ) (es fs : List Entry) (l : List ℕ) (i : ℕ) where
   grown-column : sets l i (map f (es ++ fs)) ≡ sets (sets l i (map f es)) (i + length es) (map f fs)

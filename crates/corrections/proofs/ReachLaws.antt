@@ -1,21 +1,22 @@
 -- How far bytes go along with a form: bounds, one turn of a loop along its places, and the places of the three forms.
 -- Assumes nothing.
 use mathlib.Core.Path.{_≡_, refl, sym, ap, subst, _∙_}
-use mathlib.Core.Bool.{Bool, true, false, cond}
+use mathlib.Core.Bool.{Bool, true, false, cond, _&&_, and-true, and-false, and-assoc}
 use mathlib.Core.List.{List, [], _∷_, _++_, map}
-use Prim.Native.Nat.{ℕ, zero, suc, _+_, _/_, _%_, _≤_, _<_}
+use Prim.Native.Nat.{ℕ, zero, suc, _+_, _-_, _/_, _%_, _≤_, _<_}
 use native.Mathlib.Omega.{arith}
 use native.Mathlib.Nat.{le-of-suc-le-suc, not-suc-le-zero}
 use native.Mathlib.Decide.{decLt}
-use lib.Dec.{eqb, ltb}
-use lib.ListN.{length, getD, take, drop, replicate, length-append, length-map, drop-of-length-le}
+use lib.Dec.{eqb, ltb, eqb·suc-suc, eqb·zero-suc}
+use lib.ListN.{length, getD, take, drop, replicate, length-append, length-map, length-drop, drop-of-length-le}
 use lib.ListN.{List·getD-eq-default, List·getD-append, List·getD-map, getD-replicate}
 use lib.Seq.{drop-cons, getD-take}
 use borrow.Author.Tests.{eq-eqb, ne-eqb, ltb-true, ltb-false}
 use Rattle.slices.proofs.Cases.{split}
+use Rattle.slices.proofs.PartLaws.{one-less}
 use Rattle.digits.specs.Decimal.{decimal}
 use Rattle.digits.proofs.DecimalLaws.{decimal-width, decimal-ones, decimal-tens, decimal-hundreds, width-below-1000}
-use Rattle.corrections.specs.Lines.{Span, exactly, printable, allows, Form, ended, heading, change, reach, reachAt}
+use Rattle.corrections.specs.Lines.{Span, exactly, printable, allows, Form, ended, heading, change, reach, reachAt, whole, wholeAt, printables}
 
 -- no further than the form, and no further than the bytes
 pub reach-within : (f : Form) (bs : List ℕ) → reach f bs ≤ length f
@@ -53,6 +54,28 @@ reach-at s f i log {b} z e = by (decLt i (length log))
         let past : length log ≤ i = omega arith in
         let none : b ≡ 0 = e ∙ List·getD-eq-default log 0 past in
         rw (drop-of-length-le log past, none, z)
+
+-- whether the whole form stands there, place by place
+whole-at : (s : Span) (f : Form) (i : ℕ) (log : List ℕ) {b : ℕ} → allows s 0 ≡ false → b ≡ getD log i 0
+    → whole (s ∷ f) (drop i log) ≡ (allows s b && whole f (drop (i + 1) log))
+unfolding whole reachAt
+whole-at s f i log {b} z e =
+    let first : reach (s ∷ f) (drop i log) ≡ cond (allows s b) (suc (reach f (drop (i + 1) log))) 0 = reach-at s f i log z e in
+    split (allows s b) (λ t. rw (first, t) (eqb·suc-suc (reach f (drop (i + 1) log)) (length f))) (λ t. rw (first, t) (eqb·zero-suc (length f)))
+
+whole-ended : (i : ℕ) (log : List ℕ) → whole ended (drop i log) ≡ eqb (getD log i 0) 10
+unfolding whole reach
+whole-ended i log = whole-at (exactly 10) [] i log refl refl ∙ and-true (eqb (getD log i 0) 10)
+
+whole-printables : (n : ℕ) (f : Form) (i : ℕ) (log : List ℕ)
+    → whole (replicate n printable ++ f) (drop i log) ≡ (printables n i log && whole f (drop (i + n) log))
+unfolding printables
+whole-printables zero f i log = let e : i + 0 ≡ i = omega arith in rw e
+whole-printables (suc n) f i log =
+    let e : i + suc n ≡ i + 1 + n = omega arith in
+    whole-at printable (replicate n printable ++ f) i log refl refl
+    ∙ rw (whole-printables n f (i + 1) log, e)
+    (sym (and-assoc (allows printable (getD log i 0)) (printables n (i + 1) log) (whole f (drop (i + 1 + n) log))))
 
 module _ (f : Form) (i : ℕ) (log : List ℕ) (k : ℕ) where
   -- how far they go, where k places were right
@@ -123,6 +146,11 @@ module _ (n : ℕ) where
       digit : (m : ℕ) → eqb 0 (m % 10 + 48) ≡ false
       digit m = ne-eqb 0 (m % 10 + 48) (λ (z : 0 ≡ m % 10 + 48). omega arith)
 
+  -- it begins with its letter
+  pub heading-other : (i : ℕ) (log : List ℕ) {b : ℕ} → b ≡ getD log i 0 → (b ≡ 67 → ⊥) → false ≡ wholeAt (heading n) i log
+  unfolding heading wholeAt
+  heading-other i log {b} e q = sym (whole-at (exactly 67) _ i log refl e ∙ rw (ne-eqb b 67 q))
+
   pub heading-six : n < 1000 → length (heading n) ≤ 6
   heading-six h = omega (arith, heading-width, width-below-1000 n h)
 
@@ -165,6 +193,59 @@ module _ (letter : ℕ) where
   pub change-end : (k : ℕ) → 134 ≤ k → k < 135 → getD (change letter) k (exactly 0) ≡ exactly 10
   unfolding change
   change-end k g h = let e : k ≡ 134 = omega arith in rw e
+
+-- whether it stands there, by its bytes
+module _ (letter i : ℕ) (log : List ℕ) (some : 0 < letter) where
+  change-whole : whole (change letter) (drop i log)
+      ≡ (eqb (getD log i 0) letter && (eqb (getD log (i + 1) 0) 9 && (printables 132 (i + 2) log && eqb (getD log (i + 134) 0) 10)))
+  unfolding change
+  change-whole =
+      let second : i + 1 + 1 ≡ i + 2 = omega arith in
+      let last : i + 2 + 132 ≡ i + 134 = omega arith in
+      whole-at (exactly letter) (exactly 9 ∷ (replicate 132 printable ++ ended)) i log (ne-eqb 0 letter (λ (z : 0 ≡ letter). omega arith)) refl
+      ∙ rw (whole-at (exactly 9) (replicate 132 printable ++ ended) (i + 1) log refl refl, second, whole-printables 132 ended (i + 2) log, last, whole-ended (i + 134) log)
+
+  pub change-short : length log < i + 135 → false ≡ wholeAt (change letter) i log
+  unfolding whole wholeAt
+  change-short h =
+      sym (ne-eqb (reach (change letter) (drop i log)) (length (change letter))
+      (λ q. omega (arith, reach-length (change letter) (drop i log), length-drop i log, change-width letter)))
+
+  pub change-other : (getD log i 0 ≡ letter → ⊥) → false ≡ wholeAt (change letter) i log
+  unfolding wholeAt
+  change-other q = sym (change-whole ∙ rw (ne-eqb (getD log i 0) letter q))
+
+  pub change-untabbed : (getD log (i + 1) 0 ≡ 9 → ⊥) → false ≡ wholeAt (change letter) i log
+  unfolding wholeAt
+  change-untabbed q = sym (change-whole ∙ rw (ne-eqb (getD log (i + 1) 0) 9 q) (and-false (eqb (getD log i 0) letter)))
+
+  pub change-unprintable : printables 132 (i + 2) log ≡ false → false ≡ wholeAt (change letter) i log
+  unfolding wholeAt
+  change-unprintable q = sym (change-whole ∙ rw (q, and-false (eqb (getD log (i + 1) 0) 9)) (and-false (eqb (getD log i 0) letter)))
+
+  pub change-ended : getD log i 0 ≡ letter → getD log (i + 1) 0 ≡ 9 → printables 132 (i + 2) log ≡ true
+      → eqb (getD log (i + 134) 0) 10 ≡ wholeAt (change letter) i log
+  unfolding wholeAt
+  change-ended p q r = sym (change-whole ∙ rw (eq-eqb (getD log i 0) letter p, eq-eqb (getD log (i + 1) 0) 9 q, r))
+
+-- whether n bytes may stand in a record, of which k were looked at and it is noted whether they may
+pub printableLeft : Bool → ℕ → ℕ → List ℕ → ℕ → Bool
+printableLeft fine n i log k = fine && printables (n - k) (i + k) log
+
+pub left-start : (n i : ℕ) (log : List ℕ) → printables n i log ≡ printableLeft true n i log 0
+unfolding printableLeft
+left-start n i log = let e : n - 0 ≡ n = omega arith in let f : i + 0 ≡ i = omega arith in rw (e, f)
+
+pub left-next : (fine : Bool) (n i : ℕ) (log : List ℕ) (k : ℕ) {right : Bool} → k < n → right ≡ allows printable (getD log (i + k) 0)
+    → printableLeft fine n i log k ≡ printableLeft (fine && right) n i log (k + 1)
+unfolding printableLeft printables
+left-next fine n i log k {right} h q =
+    let e : i + k + 1 ≡ i + (k + 1) = omega arith in
+    rw (one-less n k h, e, ← q) (sym (and-assoc fine right (printables (n - (k + 1)) (i + (k + 1)) log)))
+
+pub left-end : (fine : Bool) (n i : ℕ) (log : List ℕ) (k : ℕ) → n ≤ k → printableLeft fine n i log k ≡ fine
+unfolding printableLeft printables
+left-end fine n i log k h = let e : n - k ≡ 0 = omega arith in rw e (and-true fine)
 
 -- one turn of the loop along its places
 module _ (letter i : ℕ) (log : List ℕ) (k : ℕ) {b : ℕ} {right : Bool} (some : 0 < letter) (h : k < 135) (e : b ≡ getD log (i + k) 0)

@@ -1,11 +1,11 @@
 -- The lines that a log may have, as forms: for each place of a line the bytes that may stand there. How far some bytes go along with a
 -- form says whether they are such a line, and from which byte on they can't be completed to one.
 -- Assumes nothing.
-use Prim.Native.Nat.{ℕ, suc, _+_, max}
-use mathlib.Core.Bool.{Bool, cond, _&&_}
+use Prim.Native.Nat.{ℕ, zero, suc, _+_, max}
+use mathlib.Core.Bool.{Bool, true, cond, _&&_}
 use mathlib.Core.List.{List, [], _∷_, _++_, map}
 use lib.Dec.{eqb, leb}
-use lib.ListN.{length, drop, replicate}
+use lib.ListN.{length, getD, drop, replicate}
 use Rattle.digits.specs.Decimal.{decimal}
 use Rattle.corrections.specs.declared.lines.Line.{Line}
 use Rattle.corrections.specs.declared.lines.Line.the-variants.{Heading, TakenOut, PutIn, Stopped}
@@ -53,6 +53,15 @@ reachAt f i log = reach f (drop i log)
 -- a line of the form stands in front
 unfoldable pub whole : Form → List ℕ → Bool
 whole f bs = eqb (reach f bs) (length f)
+
+-- a line of the form stands at an offset of a log
+unfoldable pub wholeAt : Form → ℕ → List ℕ → Bool
+wholeAt f i log = whole f (drop i log)
+
+-- the n bytes of a log from an offset on may stand in a record
+unfoldable pub printables : (n at : ℕ) → List ℕ → Bool
+printables zero i log = true
+printables (suc n) i log = allows printable (getD log i 0) && printables n (i + 1) log
 
 -- how many bytes from the left are as one of the forms has them
 unfoldable pub longest : List Form → List ℕ → ℕ

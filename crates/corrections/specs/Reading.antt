@@ -58,6 +58,13 @@ widthOf begun TakenOut = 135
 widthOf begun PutIn = 135
 widthOf begun (Stopped column) = column
 
+-- how many entries it adds
+abbrev pub changes : Line → ℕ
+changes Heading = 0
+changes TakenOut = 1
+changes PutIn = 1
+changes (Stopped column) = 0
+
 -- what it adds, where it stands at an offset
 abbrev pub entriesOf : (begun at : ℕ) → Line → List Entry
 entriesOf begun at Heading = []
@@ -91,6 +98,16 @@ readLog log frozen = cond (ltb 60000 (length log)) (refused logTooLong) (read (l
 
 -- ---- the index
 
+-- the columns of the lines
+abbrev pub letters : List Entry → List ℕ
+letters es = map (λ (e : Entry). e .letter) es
+
+abbrev pub offsets : List Entry → List ℕ
+offsets es = map (λ (e : Entry). e .at) es
+
+abbrev pub numbers : List Entry → List ℕ
+numbers es = map (λ (e : Entry). e .correction) es
+
 -- zeros past the lines; nothing but zeros on a refusal
 unfoldable pub indexOf : Reading → Index
 indexOf (refused r) =
@@ -99,9 +116,9 @@ indexOf (said n es) = record {
   verdict = Accepted;
   corrections = n;
   count = length es;
-  kind = padded 444 (map (λ (e : Entry). e .letter) es);
-  at = padded 444 (map (λ (e : Entry). e .at) es);
-  correction = padded 444 (map (λ (e : Entry). e .correction) es);
+  kind = padded 444 (letters es);
+  at = padded 444 (offsets es);
+  correction = padded 444 (numbers es);
 }
 
 -- an index with more lines behind those that it has
@@ -110,7 +127,7 @@ grown i begun es = record {
   verdict = i .verdict;
   corrections = begun;
   count = i .count + length es;
-  kind = sets (i .kind) (i .count) (map (λ (e : Entry). e .letter) es);
-  at = sets (i .at) (i .count) (map (λ (e : Entry). e .at) es);
-  correction = sets (i .correction) (i .count) (map (λ (e : Entry). e .correction) es);
+  kind = sets (i .kind) (i .count) (letters es);
+  at = sets (i .at) (i .count) (offsets es);
+  correction = sets (i .correction) (i .count) (numbers es);
 }

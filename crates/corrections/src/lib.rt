@@ -3,21 +3,22 @@
 mod lines;
 
 ghost use mathlib.Core.Path.{_≡_};
-ghost use mathlib.Core.List.{[], _∷_};
 ghost use Prim.Native.Nat.{_+_, _-_, _<_, _≤_};
-ghost use lib.ListN.{length};
+ghost use lib.ListN.{length, set};
+ghost use lib.Seq.{sets};
 ghost use Rattle.corrections.specs.Reading.{
-  entry,
   refused,
-  said,
   lineVerdict,
   begunAfter,
   roomAfter,
   widthOf,
+  changes,
   entriesOf,
+  letters,
+  offsets,
+  numbers,
   readLog,
   indexOf,
-  grown,
 };
 use lines::Line;
 use refusals::MOST_RECORDS;
@@ -43,20 +44,6 @@ pub struct Index {
     pub kind: [u8; MOST_CHANGES],
     pub at: [u32; MOST_CHANGES],
     pub correction: [u32; MOST_CHANGES],
-}
-
-// The index before the first line.
-fn empty() -> Index
-    ensures { λ r. ⌜ r ≡ indexOf (said 0 []) ⌝ }
-{
-    Index {
-        verdict: Verdict::Accepted,
-        corrections: 0,
-        count: 0,
-        kind: [0u8; MOST_CHANGES],
-        at: [0u32; MOST_CHANGES],
-        correction: [0u32; MOST_CHANGES],
-    }
 }
 
 // The index of a log that is refused: nothing but zeros beside the refusal.
@@ -136,42 +123,72 @@ fn width(line: Line, begun: usize) -> usize
     }
 }
 
-// The index with one D or A line more, which stands at an offset.
-fn with_change(found: Index, letter: u8, at: usize) -> Index
-    requires { ⌜ (found .count < 444) × (found .corrections ≤ 200) × (at ≤ 60000) ⌝ }
-    ensures { λ r. ⌜ r ≡ grown found (found .corrections) (entry letter (at + 2) (found .corrections) ∷ []) ⌝ }
-{
-    let i = found.count;
-    let begun = found.corrections;
-    let mut next = found;
-    next.kind[i] = letter;
-    next.at[i] = (at + 2) as u32;
-    next.correction[i] = begun as u32;
-    next.count = i + 1;
-    next
-}
-
-// The index with one correction more.
-fn with_heading(found: Index) -> Index
-    requires { ⌜ found .corrections ≤ 200 ⌝ }
-    ensures { λ r. ⌜ r ≡ grown found (found .corrections + 1) [] ⌝ }
-{
-    let begun = found.corrections;
-    let mut next = found;
-    next.corrections = begun + 1;
-    next
-}
-
-// The index with what a line adds, which stands at an offset.
-fn with_line(found: Index, line: Line, at: usize) -> Index
-    requires { ⌜ (found .count + length (entriesOf (found .corrections) at line) ≤ 444) × (found .corrections ≤ 200) × (at ≤ 60000) ⌝ }
-    ensures { λ r. ⌜ r ≡ grown found (begunAfter (found .corrections) line) (entriesOf (found .corrections) at line) ⌝ }
+// How many corrections have begun after a line.
+fn begun_after(line: Line, begun: usize) -> usize
+    requires { ⌜ begun ≤ 200 ⌝ }
+    ensures { λ r. ⌜ r ≡ begunAfter begun line ⌝ }
 {
     match line {
-        Line::Heading => with_heading(found),
-        Line::TakenOut => with_change(found, b'D', at),
-        Line::PutIn => with_change(found, b'A', at),
-        Line::Stopped(column) => found,
+        Line::Heading => begun + 1,
+        Line::TakenOut => begun,
+        Line::PutIn => begun,
+        Line::Stopped(column) => begun,
+    }
+}
+
+// How many D and A lines there are after a line.
+fn count_after(line: Line, count: usize) -> usize
+    requires { ⌜ count ≤ 444 ⌝ }
+    ensures { λ r. ⌜ r ≡ count + changes line ⌝ }
+{
+    match line {
+        Line::Heading => count,
+        Line::TakenOut => count + 1,
+        Line::PutIn => count + 1,
+        Line::Stopped(column) => count,
+    }
+}
+
+// Stores a D or A line, which stands at an offset, behind those before it.
+fn store_change(
+    kind: &mut [u8; MOST_CHANGES],
+    starts: &mut [u32; MOST_CHANGES],
+    correction: &mut [u32; MOST_CHANGES],
+    count: usize,
+    begun: usize,
+    at: usize,
+    letter: u8,
+)
+    requires { ⌜ (count < 444) × (begun ≤ 200) × (at ≤ 60000) ⌝ }
+    ensures { λ _. ⌜ (now (kind .exit) ≡ set (now (kind .entry)) count letter)
+        × (now (starts .exit) ≡ set (now (starts .entry)) count (at + 2))
+        × (now (correction .exit) ≡ set (now (correction .entry)) count begun) ⌝ }
+{
+    kind[count] = letter;
+    starts[count] = (at + 2) as u32;
+    correction[count] = begun as u32;
+}
+
+// Stores what a line adds.
+fn store_line(
+    kind: &mut [u8; MOST_CHANGES],
+    starts: &mut [u32; MOST_CHANGES],
+    correction: &mut [u32; MOST_CHANGES],
+    count: usize,
+    begun: usize,
+    at: usize,
+    line: Line,
+)
+    requires { ⌜ (count + length (entriesOf begun at line) ≤ 444) × (begun ≤ 200) × (at ≤ 60000) ⌝ }
+    ensures { λ _. ⌜ (now (kind .exit) ≡ sets (now (kind .entry)) count (letters (entriesOf begun at line)))
+        × (now (starts .exit) ≡ sets (now (starts .entry)) count (offsets (entriesOf begun at line)))
+        × (now (correction .exit) ≡ sets (now (correction .entry)) count (numbers (entriesOf begun at line))) ⌝ }
+{
+    match line {
+        Line::Heading => {}
+        Line::TakenOut => store_change(kind, starts, correction, count, begun, at, b'D'),
+        Line::PutIn => store_change(kind, starts, correction, count, begun, at, b'A'),
+        Line::Stopped(column) => {}
     }
 }
 
@@ -183,12 +200,15 @@ pub fn index_of(log: &[u8], frozen: usize) -> Index
     if LONGEST_LOG < log.len() {
         return refused_by(Refusal::log_too_long());
     }
-    let mut found = empty();
+    let mut kind = [0u8; MOST_CHANGES];
+    let mut starts = [0u32; MOST_CHANGES];
+    let mut correction = [0u32; MOST_CHANGES];
+    let mut begun: usize = 0;
+    let mut count: usize = 0;
     let mut room = room_beside(frozen);
     let mut number: usize = 1;
     let mut at: usize = 0;
     while at < log.len() {
-        let begun = found.corrections;
         let line = lines::line_at(log, at, begun);
         let verdict = judge_line(line, number, begun, room);
         match verdict {
@@ -197,11 +217,27 @@ pub fn index_of(log: &[u8], frozen: usize) -> Index
                 return refused_by(r);
             }
         }
-        let next = with_line(found, line, at);
-        found = next;
+        store_line(
+            &mut kind,
+            &mut starts,
+            &mut correction,
+            count,
+            begun,
+            at,
+            line,
+        );
+        count = count_after(line, count);
         room = room_after(line, room);
         at += width(line, begun);
+        begun = begun_after(line, begun);
         number += 1;
     }
-    found
+    Index {
+        verdict: Verdict::Accepted,
+        corrections: begun,
+        count: count,
+        kind: kind,
+        at: starts,
+        correction: correction,
+    }
 }

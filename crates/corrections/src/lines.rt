@@ -4,7 +4,7 @@ ghost use mathlib.Core.Path.{_≡_};
 ghost use mathlib.Core.List.{map};
 ghost use Prim.Native.Nat.{_+_, _%_, _<_, _≤_, max};
 ghost use lib.ListN.{length, getD, take};
-ghost use Rattle.corrections.specs.Lines.{exactly, allows, heading, change, reachAt, lineAt};
+ghost use Rattle.corrections.specs.Lines.{exactly, printable, allows, heading, change, reachAt, wholeAt, printables, lineAt};
 use crate::CHANGE_WIDTH;
 use slices::byte_at;
 
@@ -84,6 +84,13 @@ fn reach_heading(log: &[u8], i: usize, n: usize) -> usize
     k
 }
 
+// Whether a byte may stand in a record.
+fn is_printable(b: u8) -> bool
+    ensures { λ r. ⌜ r ≡ allows printable b ⌝ }
+{
+    (32 <= b) & (b <= 126)
+}
+
 // Whether a byte may stand at a place, counted from 0, of a D or A line: its letter, a tab, the 132 bytes of a record and the line feed.
 fn change_allows(letter: u8, k: usize, b: u8) -> bool
     requires { ⌜ k < 135 ⌝ }
@@ -96,7 +103,7 @@ fn change_allows(letter: u8, k: usize, b: u8) -> bool
         return b == b'\t';
     }
     if k < 134 {
-        return (32 <= b) & (b <= 126);
+        return is_printable(b);
     }
     b == b'\n'
 }
@@ -116,25 +123,72 @@ fn reach_change(log: &[u8], i: usize, letter: u8) -> usize
     k
 }
 
+// Whether the heading of a correction stands at an offset. Most lines are told from one by their letter.
+fn heading_stands(log: &[u8], i: usize, n: usize) -> bool
+    requires { ⌜ (i < 70000) × (n < 1000) ⌝ }
+    ensures { λ r. ⌜ r ≡ wholeAt (heading n) i (now (log .entry)) ⌝ }
+{
+    if byte_at(log, i) != b'C' {
+        return false;
+    }
+    let reached = reach_heading(log, i, n);
+    reached == heading_width(n)
+}
+
+// Whether the 132 bytes from an offset on may stand in a record. It looks at them all: the compiler takes many at once where no byte
+// ends the loop.
+fn all_printable(log: &[u8], i: usize) -> bool
+    requires { ⌜ i + 132 ≤ length (now log) ⌝ }
+    ensures { λ r. ⌜ r ≡ printables 132 i (now (log .entry)) ⌝ }
+{
+    let mut fine = true;
+    let mut k = 0;
+    while k < 132 {
+        fine = fine & is_printable(log[i + k]);
+        k += 1;
+    }
+    fine
+}
+
+// Whether a D or A line stands at an offset.
+fn change_stands(log: &[u8], i: usize, letter: u8) -> bool
+    requires { ⌜ (i < 70000) × (0 < letter) ⌝ }
+    ensures { λ r. ⌜ r ≡ wholeAt (change letter) i (now (log .entry)) ⌝ }
+{
+    if log.len() < i + CHANGE_WIDTH {
+        return false;
+    }
+    if log[i] != letter {
+        return false;
+    }
+    if log[i + 1] != b'\t' {
+        return false;
+    }
+    if !all_printable(log, i + 2) {
+        return false;
+    }
+    log[i + 134] == b'\n'
+}
+
 // The line that stands at an offset, where so many corrections have begun.
 pub(crate) fn line_at(log: &[u8], i: usize, begun: usize) -> Line
     requires { ⌜ (i < 70000) × (begun ≤ 200) ⌝ }
     ensures { λ r. ⌜ r ≡ lineAt begun i (now (log .entry)) ⌝ }
 {
-    let headed = reach_heading(log, i, begun + 1);
-    if headed == heading_width(begun + 1) {
+    if heading_stands(log, i, begun + 1) {
         return Line::Heading;
     }
     if begun == 0 {
-        return Line::Stopped(headed + 1);
+        return Line::Stopped(reach_heading(log, i, begun + 1) + 1);
     }
-    let taken = reach_change(log, i, b'D');
-    if taken == CHANGE_WIDTH {
+    if change_stands(log, i, b'D') {
         return Line::TakenOut;
     }
-    let put = reach_change(log, i, b'A');
-    if put == CHANGE_WIDTH {
+    if change_stands(log, i, b'A') {
         return Line::PutIn;
     }
+    let headed = reach_heading(log, i, begun + 1);
+    let taken = reach_change(log, i, b'D');
+    let put = reach_change(log, i, b'A');
     Line::Stopped(greater(headed, greater(taken, put)) + 1)
 }
