@@ -203,7 +203,13 @@ module _ (letter i : ℕ) (log : List ℕ) (some : 0 < letter) where
       let second : i + 1 + 1 ≡ i + 2 = omega arith in
       let last : i + 2 + 132 ≡ i + 134 = omega arith in
       whole-at (exactly letter) (exactly 9 ∷ (replicate 132 printable ++ ended)) i log (ne-eqb 0 letter (λ (z : 0 ≡ letter). omega arith)) refl
-      ∙ rw (whole-at (exactly 9) (replicate 132 printable ++ ended) (i + 1) log refl refl, second, whole-printables 132 ended (i + 2) log, last, whole-ended (i + 134) log)
+      ∙ rw (
+        whole-at (exactly 9) (replicate 132 printable ++ ended) (i + 1) log refl refl,
+        second,
+        whole-printables 132 ended (i + 2) log,
+        last,
+        whole-ended (i + 134) log,
+      )
 
   pub change-short : length log < i + 135 → false ≡ wholeAt (change letter) i log
   unfolding whole wholeAt

@@ -26,11 +26,11 @@ module _ (b : ℕ) (bs : List ℕ) (e : areBytes (b ∷ bs) ≡ true) where
   unfolding areBytes
   other-bytes = and-right (ltb b 256) (areBytes bs) e
 
-pub more-bytes : (b : ℕ) (bs : List ℕ) → b < 256 → areBytes bs ≡ true → areBytes (b ∷ bs) ≡ true
+more-bytes : (b : ℕ) (bs : List ℕ) → b < 256 → areBytes bs ≡ true → areBytes (b ∷ bs) ≡ true
 unfolding areBytes
 more-bytes b bs h e = both (lt-ltb b 256 h) e
 
-pub no-more-bytes : areBytes [] ≡ true
+no-more-bytes : areBytes [] ≡ true
 unfolding areBytes
 no-more-bytes = refl
 
@@ -60,7 +60,15 @@ one-above : (k low b : ℕ) {joint : ℕ} → (joint ≡ low) × (low < 2 ^ k) �
 one-above k low b h hb hk =
     (rw (h .0) (ap (bitOr low) (shl-exact 8 k 64 hb (omega arith)) ∙ or-shifted-r b k low (h .1)), rw (pow-add 2 8 k) (digits-lt hb (h .1)))
 
--- eight bytes from i on that are joined by shifts
+-- eight bytes joined as the code does it
+abbrev up : ℕ → ℕ → ℕ
+up k b = b * 2 ^ k % 2 ^ 64
+
+abbrev shifted : (x₀ x₁ x₂ x₃ x₄ x₅ x₆ x₇ : ℕ) → ℕ
+shifted x₀ x₁ x₂ x₃ x₄ x₅ x₆ x₇ =
+    bitOr (bitOr (bitOr (bitOr (bitOr (bitOr (bitOr x₀ (up 8 x₁)) (up 16 x₂)) (up 24 x₃)) (up 32 x₄)) (up 40 x₅)) (up 48 x₆)) (up 56 x₇)
+
+-- the eight bytes from i on
 module _
     (s : List ℕ) (i : ℕ) {x₀ x₁ x₂ x₃ x₄ x₅ x₆ x₇ : ℕ} (h₀ : (x₀ ≡ getD s i 0) × (x₀ < 256)) (h₁ : (x₁ ≡ getD s (i + 1) 0) × (x₁ < 256))
     (h₂ : (x₂ ≡ getD s (i + 2) 0) × (x₂ < 256)) (h₃ : (x₃ ≡ getD s (i + 3) 0) × (x₃ < 256)) (h₄ : (x₄ ≡ getD s (i + 4) 0) × (x₄ < 256))
@@ -87,9 +95,7 @@ module _
         (more-bytes _ _ (h₃ .1)
         (more-bytes _ _ (h₄ .1) (more-bytes _ _ (h₅ .1) (more-bytes _ _ (h₆ .1) (more-bytes _ _ (h₇ .1) no-more-bytes))))))))
 
-    eight-joined :
-        bitOr (bitOr (bitOr (bitOr (bitOr (bitOr (bitOr x₀ (x₁ * 2 ^ 8 % 2 ^ 64)) (x₂ * 2 ^ 16 % 2 ^ 64)) (x₃ * 2 ^ 24 % 2 ^ 64)) (x₄ * 2 ^ 32 % 2 ^ 64)) (x₅ * 2 ^ 40 % 2 ^ 64)) (x₆ * 2 ^ 48 % 2 ^ 64)) (x₇ * 2 ^ 56 % 2 ^ 64)
-        ≡ joined (part 8 i s)
+    eight-joined : shifted x₀ x₁ x₂ x₃ x₄ x₅ x₆ x₇ ≡ joined (part 8 i s)
     unfolding joined
     eight-joined =
         let to₁ = one-above 8 _ x₁ (refl, h₀ .1) (h₁ .1) (omega arith) in
@@ -101,6 +107,5 @@ module _
         let to₇ = one-above 56 _ x₇ to₆ (h₇ .1) (omega arith) in
         rw they (to₇ .0 ∙ omega arith)
 
-    pub eight :
-        (bitOr (bitOr (bitOr (bitOr (bitOr (bitOr (bitOr x₀ (x₁ * 2 ^ 8 % 2 ^ 64)) (x₂ * 2 ^ 16 % 2 ^ 64)) (x₃ * 2 ^ 24 % 2 ^ 64)) (x₄ * 2 ^ 32 % 2 ^ 64)) (x₅ * 2 ^ 40 % 2 ^ 64)) (x₆ * 2 ^ 48 % 2 ^ 64)) (x₇ * 2 ^ 56 % 2 ^ 64) ≡ joined (part 8 i s)) × (areBytes (part 8 i s) ≡ true)
+    pub eight : (shifted x₀ x₁ x₂ x₃ x₄ x₅ x₆ x₇ ≡ joined (part 8 i s)) × (areBytes (part 8 i s) ≡ true)
     eight = (eight-joined, eight-bytes)

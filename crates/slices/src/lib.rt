@@ -1,5 +1,6 @@
 // Reading, comparing and writing runs of bytes, at every place of every slice. A byte past a slice's end reads as 0, and a byte
-// that is put past it is dropped, so no function here asks anything of its caller.
+// that is put past it is dropped, so no public function here asks anything of its caller. Whether a run lies within its slice is tested
+// once, and then no byte of it is: the private functions for such runs ask that they do.
 mod words;
 
 ghost use mathlib.Core.Path.{_≡_};
@@ -68,7 +69,8 @@ fn lies(s: &[u8], i: usize, n: usize) -> bool
     }
 }
 
-// How the n bytes of a from i on stand to the n bytes of b from j on, by the first that differs.
+// How the n bytes of a from i on stand to the n bytes of b from j on, by the first that differs. The test for less than a word leaves
+// nothing but the loop by bytes where n is a small number in the caller's code.
 pub fn compare(a: &[u8], i: usize, b: &[u8], j: usize, n: usize) -> Ordering
     ensures { λ r. ⌜ r ≡ order (part n i (now (a .entry))) (part n j (now (b .entry))) ⌝ }
 {
@@ -127,7 +129,7 @@ fn compare_bytes(a: &[u8], i: usize, b: &[u8], j: usize, n: usize) -> Ordering
     Ordering::Equal
 }
 
-// The same, past the words that are the same.
+// The same, by bytes only from the first word on that is not the same.
 fn compare_words(a: &[u8], i: usize, b: &[u8], j: usize, n: usize) -> Ordering
     requires { ⌜ (i + n ≤ length (now a)) × (j + n ≤ length (now b)) ⌝ }
     ensures { λ r. ⌜ r ≡ order (part n i (now (a .entry))) (part n j (now (b .entry))) ⌝ }
@@ -184,7 +186,7 @@ fn same_bytes(a: &[u8], i: usize, b: &[u8], j: usize, n: usize) -> bool
     true
 }
 
-// The same by words.
+// The same by words, also from the last on.
 fn same_words(a: &[u8], i: usize, b: &[u8], j: usize, n: usize) -> bool
     requires { ⌜ (i + n ≤ length (now a)) × (j + n ≤ length (now b)) ⌝ }
     ensures { λ r. ⌜ r ≡ equal (part n i (now (a .entry))) (part n j (now (b .entry))) ⌝ }

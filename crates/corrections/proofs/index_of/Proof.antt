@@ -109,7 +109,9 @@ loop-again c =
     let inv = judged .before .before .before .loop .inv in
     let line = advances _ _ _ _ _ (judged .before .line-at .ensures) (judged .judge-line .ensures) (told .enum-told .given .1) in
     let counted = c .before .before .before in
-    let more = grown-by _ _ (judged .before .before .before .loop .at) _ _ _ (judged .before .line-at .result) (c .begun-after .ensures) (counted .count-after .ensures) (counted .before .store-line .ensures) in (
+    let more =
+    grown-by _ _ (judged .before .before .before .loop .at) _ _ _ (judged .before .line-at .result) (c .begun-after .ensures)
+    (counted .count-after .ensures) (counted .before .store-line .ensures) in (
       kept-next (inv .0) line more (c .before .width .ensures),
       inv .1
           ∙ reading-next _ _ _ _ _ (judged .before .before .loop-test .taken) (inv .0 .counted) (judged .before .line-at .ensures)

@@ -38,8 +38,11 @@ loop-less c = search needs
 
 loop-again : tie.Need-loop-again Inv-loop μ-loop
 loop-again c =
-    let turn = c .before .before in
-    (search needs, turn .before .loop .inv .1 ∙ comparing-on _ _ _ _ _ _ 8 (turn .loop-test .taken) (sym (is-true _ (c .if1 .left)) ∙ c .before .same-word .ensures))
+    let turn = c .before .before in (
+      search needs,
+      turn .before .loop .inv .1
+          ∙ comparing-on _ _ _ _ _ _ 8 (turn .loop-test .taken) (sym (is-true _ (c .if1 .left)) ∙ c .before .same-word .ensures),
+    )
 
 add-compare-bytes : tie.Need-add-compare-bytes Inv-loop μ-loop
 add-compare-bytes c = search needs

@@ -39,8 +39,11 @@ loop-less c = search needs
 
 loop-again : tie.Need-loop-again Inv-loop μ-loop
 loop-again c =
-    let turn = c .before in
-    (search needs, simp length-set (turn .before .loop .inv .1), turn .before .loop .inv .2 ∙ copied-next _ _ _ _ _ _ (turn .loop-test .taken) refl refl)
+    let turn = c .before in (
+      search needs,
+      simp length-set (turn .before .loop .inv .1),
+      turn .before .loop .inv .2 ∙ copied-next _ _ _ _ _ _ (turn .loop-test .taken) refl refl,
+    )
 
 same-length : tie.Need-same-length Inv-loop μ-loop
 same-length c = c .before .loop .inv .1

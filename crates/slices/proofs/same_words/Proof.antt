@@ -37,8 +37,11 @@ loop-less c = search needs
 
 loop-again : tie.Need-loop-again Inv-loop μ-loop
 loop-again c =
-    let turn = c .before .before in
-    (search needs, turn .before .loop .inv .1 ∙ same-next _ _ _ _ 8 _ (turn .loop-test .taken) (sym (c .before .same-word .ensures) ∙ is-true _ (c .if1 .left)))
+    let turn = c .before .before in (
+      search needs,
+      turn .before .loop .inv .1
+          ∙ same-next _ _ _ _ 8 _ (turn .loop-test .taken) (sym (c .before .same-word .ensures) ∙ is-true _ (c .if1 .left)),
+    )
 
 same-bytes-requires : tie.Need-same-bytes-requires Inv-loop μ-loop
 same-bytes-requires c κs = search needs

@@ -25,7 +25,8 @@ add-t12 : tie.Need-add-t12
 add-t12 c = omega (arith, heading-at-most _ _ _ (c .reach-heading .ensures))
 
 returns-2 : tie.Need-returns-2
-returns-2 c = line-first _ _ _ (c .before .before .before .heading-stands .ensures) (c .before .before .if1 .left) (c .before .if2 .taken) (c .reach-heading .ensures)
+returns-2 c =
+    line-first _ _ _ (c .before .before .before .heading-stands .ensures) (c .before .before .if1 .left) (c .before .if2 .taken) (c .reach-heading .ensures)
 
 change-stands-requires : tie.Need-change-stands-requires
 change-stands-requires c κs = search needs
