@@ -11,5 +11,6 @@ pub mod Routes
 pub mod Lines
 pub mod Legality
 pub mod FirstLaws
+mod GlanceLaws
 mod Turns
 mod Vectors

@@ -131,21 +131,37 @@ next-of place s r l Primary k c o g = by (order (keyOf (s .primary)) (keyOf r)) 
         follows l k (awaited-iff place s r .0 c) same (sequence-iff place (s .primary) r .0 q) (sym (stands-same (s .primary) r same) ∙ stands)
     by Greater e q = absurd (never q)
 
--- what the last three stages say
-abbrev continued : ℕ → Seen → List ℕ → Verdict
+-- what 6, 7 and the first of 8 say
+abbrev pub continued : ℕ → Seen → List ℕ → Verdict
 continued place s r = continuationStage 38 39 (kindOf r) s place r
 
-abbrev ordered : ℕ → Seen → List ℕ → Verdict
+abbrev pub ordered : ℕ → Seen → List ℕ → Verdict
 ordered place s r = orderStage 25 (kindOf r) (s .primary) place r (sequenceStage (s .primary) place r)
 
-abbrev flown : ℕ → Seen → List ℕ → Verdict
+abbrev pub flown : ℕ → Seen → List ℕ → Verdict
 flown place s r = legStage 25 (kindOf r) (s .primary) place r
 
+-- a primary passes them
+module _ (place : ℕ) (s : Seen) (r : List ℕ) (k : kindOf r ≡ Primary) (a : awaits 39 (s .before) ≡ false) where
+  pub begins-passes : Before (keyOf (s .primary)) (keyOf r) → firstLeg r ≡ true
+      → (continued place s r ≡ Accepted) × (ordered place s r ≡ Accepted) × (flown place s r ≡ Accepted)
+  unfolding orderStage
+  begins-passes b f = (rw k (awaited-iff place s r .1 a), rw (k, b), rw k (leg-iff place (s .primary) r .1 (stands-later (s .primary) r b ∙ f)))
+
+  pub follows-passes : keyOf (s .primary) ≡ keyOf r → Before (sequenceOf (s .primary)) (sequenceOf r) → pair (terminatorIn (s .primary)) (terminatorIn r) ≡ true
+      → (continued place s r ≡ Accepted) × (ordered place s r ≡ Accepted) × (flown place s r ≡ Accepted)
+  unfolding orderStage
+  follows-passes b q f = (
+    rw k (awaited-iff place s r .1 a),
+    rw (k, b, order-refl (keyOf r)) (sequence-iff place (s .primary) r .1 q),
+    rw k (leg-iff place (s .primary) r .1 (stands-same (s .primary) r b ∙ f)),
+  )
+
 -- where it is the last leg of its route, it may be
-abbrev Ending : (last : Bool) → List ℕ → Type 0
+abbrev pub Ending : (last : Bool) → List ℕ → Type 0
 Ending last r = last ≡ true → lastLeg r ≡ true
 
-ending-iff : (place : ℕ) (last : Bool) (r : List ℕ) → (endingStage last place r ≡ Accepted) ↔ Ending last r
+pub ending-iff : (place : ℕ) (last : Bool) (r : List ℕ) → (endingStage last place r ≡ Accepted) ↔ Ending last r
 unfolding endingStage
 ending-iff place last r = (to last (lastLeg r), from last (lastLeg r))
   where
@@ -171,17 +187,14 @@ next-iff place s last r = (to, λ (n, h). from n (ending-iff place last r .1 h))
     to : judgedNext s place last r ≡ Accepted → Next s r × Ending last r
     to e = let w = stages .0 e in (next-of place s r (accepted-iff r place .0 (w .0)) (kindOf r) refl (w .1) (w .2) (w .3), ending-iff place last r .0 (w .4))
 
-    all-stages : Legal r → continued place s r ≡ Accepted → ordered place s r ≡ Accepted → flown place s r ≡ Accepted → endingStage last place r ≡ Accepted
+    all-stages : Legal r → (continued place s r ≡ Accepted) × (ordered place s r ≡ Accepted) × (flown place s r ≡ Accepted) → endingStage last place r ≡ Accepted
         → judgedNext s place last r ≡ Accepted
-    all-stages l c o g h = stages .1 (accepted-iff r place .1 l, c, o, g, h)
+    all-stages l (c, o, g) h = stages .1 (accepted-iff r place .1 l, c, o, g, h)
 
     from : Next s r → endingStage last place r ≡ Accepted → judgedNext s place last r ≡ Accepted
-    from (begins l k a b f) h =
-        all-stages l (rw k (awaited-iff place s r .1 a)) (rw (k, b)) (rw k (leg-iff place (s .primary) r .1 (stands-later (s .primary) r b ∙ f))) h
-    from (follows l k a b q f) h =
-        all-stages l (rw k (awaited-iff place s r .1 a)) (rw (k, b, order-refl (keyOf r)) (sequence-iff place (s .primary) r .1 q))
-        (rw k (leg-iff place (s .primary) r .1 (stands-same (s .primary) r b ∙ f))) h
-    from (continues l k n e) h = all-stages l (rw k (continuation-iff place s r .1 (n, e))) (rw k) (rw k) h
+    from (begins l k a b f) h = all-stages l (begins-passes place s r k a b f) h
+    from (follows l k a b q f) h = all-stages l (follows-passes place s r k a b q f) h
+    from (continues l k n e) h = all-stages l (rw k (continuation-iff place s r .1 (n, e)), rw k, rw k) h
 
 -- ---- a walk that accepts, from a state on
 
@@ -208,7 +221,7 @@ rest-from place (more {s} {r} {rs} n h t) =
       w .1,
     )
 
-finished-iff : (rs : List (List ℕ)) → (finished rs ≡ Accepted) ↔ (awaits 39 (last rs) ≡ false)
+pub finished-iff : (rs : List (List ℕ)) → (finished rs ≡ Accepted) ↔ (awaits 39 (last rs) ≡ false)
 unfolding finished
 finished-iff rs = (to (awaits 39 (last rs)), λ e. rw e)
   where

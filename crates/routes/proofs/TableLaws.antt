@@ -28,7 +28,7 @@ use Rattle.leg.specs.declared.terminator.Terminator.{Terminator}
 use Rattle.leg.specs.declared.terminator.Terminator.the-variants.{Vr}
 use Rattle.leg.proofs.TerminatorLaws.{row-of, past}
 use Rattle.routes.specs.LegTable.{named, page, RouteKind, routeKinds, pairDifferences, firstDifferences, lastDifferences}
-use Rattle.routes.specs.Pairs.{isOne, onlyFirst, neverFirst, followsFix, oldPair, mark, readable, pair, ofKind, ofLine, kindLines, kindNumber, kindAt, mayBegin, mayEnd, Agreement, listed}
+use Rattle.routes.specs.Pairs.{isOne, onlyFirst, neverFirst, followsFix, oldPair, mark, readable, pair, PairTable, ofKind, ofLine, kindLines, kindNumber, kindAt, mayBegin, mayEnd, Agreement, listed}
 
 -- ---- a test over the whole, carried to each
 
@@ -119,6 +119,9 @@ module _ (t u : Terminator) where
   unfolding cell kept
   pairs-agree =
       agreement (listed pairDifferences t u) (pair t u) (oldPair t u) (alike-same _ _ (and-right (byName t u) (kept t u) (and-right (held t u) (byName t u && kept t u) cell-of)))
+
+pub pairs-table : PairTable pairsTable
+pairs-table = record { cell = λ t u. pair-cell t u }
 
 -- the page's columns and its rows are headed by the names in their order, so a mark is read under its own
 headOfColumn : Terminator → List ℕ

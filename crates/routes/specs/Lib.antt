@@ -8,5 +8,6 @@ pub mod Walk
 pub mod Known
 pub mod Files
 pub mod Places
+pub mod Glance
 pub mod First
 pub mod Legal

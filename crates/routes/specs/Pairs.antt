@@ -56,6 +56,10 @@ readable t u = not (eqb (mark t u) (code "."))
 unfoldable pub pair : (leg next : Terminator) → Bool
 pair t u = readable t u || oldPair t u
 
+-- a table that has a line for each leg, and in it a cell for each that may come behind it: + where it may
+pub record PairTable (table : List ℕ) : Type 0 where
+  pub cell : (t u : Terminator) → eqb (getD table (terminatorNumber t * 23 + terminatorNumber u) 0) (code "+") ≡ pair t u
+
 -- ---- kinds of route
 
 -- a route of this subsection and type is of the kind

@@ -1,7 +1,9 @@
 // Which leg may begin and which may end a route of which kind, and which may follow which: Attachment 5's tables, as specs/LegTable sets
-// them out. Assumes nothing.
+// them out. Assumes of its callers, all in this crate, that the number of a leg is one of the 23.
 ghost use mathlib.Core.Path.{_≡_};
-ghost use Prim.Native.Nat.{_≤_};
+ghost use Prim.Native.Nat.{_+_, _*_, _≤_, _<_};
+ghost use lib.Dec.{eqb};
+ghost use lib.ListN.{getD};
 ghost use Rattle.slices.specs.Search.{firstAt};
 ghost use Rattle.columns.specs.Rows.{byteIn};
 ghost use Rattle.routes.specs.Pairs.{kindLines, ofLine, kindNumber, firstLeg, lastLeg, pair};
@@ -23,7 +25,7 @@ const MOST_TYPES: usize = KIND_WIDTH - 1;
 // AF CA CD CF CI CR DF FA FC FD FM HA HF HM IF PI RF TF VA VD VI VM VR.
 
 // A line for each leg, a cell for each that may come behind it.
-const PAIRS: [u8; 529] = *b"\
+pub(crate) const PAIRS: [u8; 529] = *b"\
     ++++++++++++++-++++++++\
     +++++++-----------+++++\
     +++++++-----------+++++\
@@ -132,11 +134,19 @@ pub(crate) fn last_leg(rec: &[u8]) -> bool
     byte_at(&ENDINGS, k * LEGS + n) == b'+'
 }
 
+// Whether by a table of pairs a leg may follow another, both by their numbers. The table is lent: whoever names it has it made anew.
+pub(crate) fn may_follow(pairs: &[u8], leg: usize, next: usize) -> bool
+    requires { ⌜ (leg < 23) × (next < 23) ⌝ }
+    ensures { λ r. ⌜ r ≡ eqb (getD (now (pairs .entry)) (leg * 23 + next) 0) 43 ⌝ }
+{
+    byte_at(pairs, leg * LEGS + next) == b'+'
+}
+
 // Whether a leg of u may follow a leg of t within a route.
 pub(crate) fn pair(t: Terminator, u: Terminator) -> bool
     ensures { λ r. ⌜ r ≡ pair t u ⌝ }
 {
-    let m = t.number();
-    let n = u.number();
-    PAIRS[m * LEGS + n] == b'+'
+    let leg = t.number();
+    let next = u.number();
+    may_follow(&PAIRS, leg, next)
 }

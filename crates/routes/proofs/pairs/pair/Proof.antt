@@ -1,4 +1,5 @@
 -- The cell of the two terminators says it. Assumes nothing.
+use mathlib.Core.Path.{_∙_}
 use borrow.Author.Needs.{needs}
 use Rattle.routes.proofs.TableLaws.{pairsTable, pair-cell}
 use Rattle.routes.proofs.pairs.pair.Statement.{statement}
@@ -10,18 +11,18 @@ number-requires c κs = search needs
 number-requires-2 : tie.Need-number-requires-2
 number-requires-2 c κs = search needs
 
-mul-result : tie.Need-mul-result
-mul-result c = search needs
+slice-aggregate-may-follow : tie.Need-slice-aggregate-may-follow
+slice-aggregate-may-follow c = search needs
 
-add-result : tie.Need-add-result
-add-result c = search needs
-
-array-read-result : tie.Need-array-read-result
-array-read-result c = search needs
+may-follow-requires : tie.Need-may-follow-requires
+may-follow-requires c κs = search needs
 
 returns : tie.Need-returns
 unfolding pairsTable
-returns c = rw (c .before .number .ensures .0, c .number2 .ensures .0) (pair-cell (c .before .before .args .t) (c .before .before .args .u))
+returns c =
+    let numbers = c .before .before in
+    c .may-follow .ensures
+    ∙ rw (numbers .before .number .ensures .0, numbers .number2 .ensures .0) (pair-cell (numbers .before .before .args .t) (numbers .before .before .args .u))
 
 pub pair-spec : {M : Type 1} → statement M
-pair-spec = tie.close (tie.spec number-requires number-requires-2 mul-result add-result array-read-result returns)
+pair-spec = tie.close (tie.spec number-requires number-requires-2 slice-aggregate-may-follow may-follow-requires returns)

@@ -1,0 +1,135 @@
+// A quick yes: records that are seen at a glance to stand, since each is known and a primary without continuations, and is behind the one
+// before it in one route. Routes are nearly always so, and are judged again with every correction of theirs. What is not so is not refused
+// here: the walk says what it is. Assumes of its callers, all in this crate, that the table of pairs is right, and so are the numbers of legs.
+ghost use mathlib.Core.Path.{_≡_};
+ghost use mathlib.Core.Bool.{true};
+ghost use Prim.Native.Nat.{_<_};
+ghost use lib.ListN.{take, drop};
+ghost use Rattle.leg.specs.Terminator.{terminatorNumber};
+ghost use Rattle.refusals.specs.declared.Verdict.the-variants.{Accepted};
+ghost use Rattle.routes.specs.Pairs.{terminatorIn, PairTable};
+ghost use Rattle.routes.specs.Known.{walkedKnowing};
+ghost use Rattle.routes.specs.Glance.{lone, Begins, Follows, StandingIn};
+use crate::KEY;
+use crate::NUMBER;
+use crate::known::knows;
+use crate::pairs;
+use crate::record_at;
+use leg::terminator::Terminator;
+use slices::Ordering;
+use slices::byte_at;
+use slices::compare;
+use slices::least;
+use slices::same;
+
+// Whether a record is a primary without continuations.
+fn lone(rec: &[u8]) -> bool
+    ensures { λ r. ⌜ r ≡ lone (now (rec .entry)) ⌝ }
+{
+    byte_at(rec, NUMBER - 1) == b'0'
+}
+
+// Whether a record may be the first of all. Its route is later than none at all, whose bytes are 0.
+fn begins(rec: &[u8]) -> bool
+    ensures { λ r. ⌜ (r ≡ true → Begins (now (rec .entry))) ⌝ }
+{
+    if !lone(rec) {
+        return false;
+    }
+    if byte_at(rec, 0) == 0 {
+        return false;
+    }
+    pairs::first_leg(rec)
+}
+
+// Whether a record may stand behind another in one route. The numbers of their legs are at hand.
+fn follows<'a>(pairs: &[u8], before: &'a [u8], leg: usize, rec: &'a [u8], next: usize) -> bool
+    requires { ⌜ PairTable (now pairs) × (leg ≡ terminatorNumber (terminatorIn (now before))) × (leg < 23)
+        × (next ≡ terminatorNumber (terminatorIn (now rec))) × (next < 23) ⌝ }
+    ensures { λ r. ⌜ (r ≡ true → Follows (now (before .entry)) (now (rec .entry))) ⌝ }
+{
+    if !lone(rec) {
+        return false;
+    }
+    if !same(before, 0, rec, 0, KEY) {
+        return false;
+    }
+    let way = compare(before, 26, rec, 26, 3);
+    match way {
+        Ordering::Less => pairs::may_follow(pairs, leg, next),
+        Ordering::Equal => false,
+        Ordering::Greater => false,
+    }
+}
+
+// Whether the records of some sources, from one on up to another, stand behind a record, each behind the one before it, and the last may end
+// the route.
+fn stand_behind<'a>(
+    pairs: &[u8],
+    frozen: &'a [u8],
+    log: &'a [u8],
+    known: &[u32],
+    sources: &[u32],
+    from: usize,
+    to: usize,
+    first: &'a [u8],
+) -> bool
+    requires { ⌜ PairTable (now pairs) ⌝ }
+    ensures { λ r. ⌜ (r ≡ true
+        → StandingIn (now (known .entry)) (now (frozen .entry)) (now (log .entry)) (now (first .entry)) (now (sources .entry)) from to) ⌝ }
+{
+    let end = least(to, sources.len());
+    let mut before = first;
+    let mut leg = Terminator::of(first).number();
+    let mut i = from;
+    while i < end {
+        let source = sources[i];
+        if !knows(known, source) {
+            return false;
+        }
+        let rec = record_at(frozen, log, source);
+        let next = Terminator::of(rec).number();
+        if !follows(pairs, before, leg, rec, next) {
+            return false;
+        }
+        before = rec;
+        leg = next;
+        i += 1;
+    }
+    pairs::last_leg(before)
+}
+
+// Whether the records of some sources, from one on up to another, are seen at a glance to be accepted. No is no answer.
+pub(crate) fn stand<'a>(
+    frozen: &'a [u8],
+    log: &'a [u8],
+    known: &[u32],
+    sources: &[u32],
+    from: usize,
+    to: usize,
+) -> bool
+    ensures { λ r. ⌜ (r ≡ true
+        → walkedKnowing (now (known .entry)) (now (frozen .entry)) (now (log .entry)) (drop from (take to (now (sources .entry)))) ≡ Accepted) ⌝ }
+{
+    if least(to, sources.len()) <= from {
+        return false;
+    }
+    let source = sources[from];
+    if !knows(known, source) {
+        return false;
+    }
+    let first = record_at(frozen, log, source);
+    if !begins(first) {
+        return false;
+    }
+    stand_behind(
+        &pairs::PAIRS,
+        frozen,
+        log,
+        known,
+        sources,
+        from + 1,
+        to,
+        first,
+    )
+}
