@@ -6,10 +6,8 @@ use mathlib.Core.Bool.{true, false, false≢true}
 use mathlib.Core.List.{List, [], _∷_, _++_, map}
 use Prim.Native.Nat.{ℕ, _+_, _*_, _≤_, _<_, min}
 use native.Mathlib.Omega.{arith}
-use native.Mathlib.Numerals.{add-one}
 use lib.Dec.{eqb}
-use lib.ListN.{length, getD, take, drop, length-take, drop-of-length-le}
-use lib.Seq.{drop-cons, getD-take}
+use lib.ListN.{length, getD, take, drop}
 use borrow.Author.Tests.{eqb-true}
 use Rattle.slices.specs.Part.{part}
 use Rattle.slices.specs.Order.{order}
@@ -30,7 +28,7 @@ use Rattle.routes.specs.Known.{knows, judgedKnowing, walkKnowing, walked
 use Rattle.routes.specs.Glance.{lone, Begins, Follows, Standing, StandingIn}
 use Rattle.routes.specs.declared.Sources.{Sources}
 use Rattle.routes.proofs.InTurnLaws.{alone, accepts-iff, four-accept}
-use Rattle.routes.proofs.SourceLaws.{used-to}
+use Rattle.routes.proofs.SourceLaws.{none-of, first-of, used-to}
 use Rattle.routes.proofs.Steps.{continued, ordered, flown, begins-passes, follows-passes, ending-iff, finished-iff}
 
 -- ---- a primary without continuations
@@ -61,16 +59,6 @@ module _ (before rec : List ℕ) (a : lone before ≡ true) (f : Follows before 
   not-last = rw (lone-primary before a, equal-iff (keyOf before) (keyOf rec) .1 (f .route), lone-primary rec (f .single))
 
 -- ---- records that stand
-
--- those of the sources from i on up to another: none, or the one at i and those behind it
-module _ (sources : List ℕ) (i to : ℕ) where
-  none-of : min to (length sources) ≤ i → drop i (take to sources) ≡ []
-  none-of h = drop-of-length-le (take to sources) {i = i} (simp length-take (omega arith))
-
-  first-of : i < min to (length sources) → drop i (take to sources) ≡ getD sources i 0 ∷ drop (i + 1) (take to sources)
-  first-of h =
-      let q : i < length (take to sources) = simp length-take (omega arith) in
-      rw (add-one, drop-cons (take to sources) i 0 q, getD-take to sources i 0 (omega arith))
 
 module _ (known frozen log before sources : List ℕ) (i to : ℕ) where
   pub standing-end : min to (length sources) ≤ i → lastLeg before ≡ true → StandingIn known frozen log before sources i to

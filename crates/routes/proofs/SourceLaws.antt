@@ -124,10 +124,21 @@ none-left f i e z = omega arith
 
 -- ---- a range of sources
 
+-- of some sources those from i on up to another: none, or the one at i and those behind it
+module _ (sources : List ℕ) (i to : ℕ) where
+  pub none-of : min to (length sources) ≤ i → drop i (take to sources) ≡ []
+  none-of h = drop-of-length-le (take to sources) {i = i} (simp length-take (omega arith))
+
+  pub first-of : i < min to (length sources) → drop i (take to sources) ≡ getD sources i 0 ∷ drop (i + 1) (take to sources)
+  first-of h =
+      let q : i < length (take to sources) = simp length-take (omega arith) in
+      rw (add-one, drop-cons (take to sources) i 0 q, getD-take to sources i 0 (omega arith))
+
+-- .. of those that count
 module _ (s : Sources) (long : length (s .at) ≡ 480) (to i : ℕ) where
   pub range-end : min to (min (s .count) 480) ≤ i → sourcesIn s i to ≡ []
   unfolding inUse
-  range-end h = drop-of-length-le (take to (take (s .count) (s .at))) {i = i} (simp length-take (omega arith))
+  range-end h = none-of (take (s .count) (s .at)) i to (simp length-take (omega arith))
 
   pub records-end : (f l : List ℕ) → min to (min (s .count) 480) ≤ i → recordsIn f l s i to ≡ []
   unfolding recordsIn
@@ -135,9 +146,7 @@ module _ (s : Sources) (long : length (s .at) ≡ 480) (to i : ℕ) where
 
   pub range-next : i < min to (min (s .count) 480) → sourcesIn s i to ≡ getD (s .at) i 0 ∷ sourcesIn s (i + 1) to
   unfolding inUse
-  range-next h =
-      let q : i < length (take to (take (s .count) (s .at))) = simp length-take (omega arith) in
-      rw (add-one, drop-cons (take to (take (s .count) (s .at))) i 0 q, getD-take to (take (s .count) (s .at)) i 0 (omega arith), getD-take (s .count) (s .at) i 0 (omega arith))
+  range-next h = rw (first-of (take (s .count) (s .at)) i to (simp length-take (omega arith)), getD-take (s .count) (s .at) i 0 (omega arith))
 
 -- two ranges one behind the other are one
 pub range-join : (i to ahead : ℕ) (xs : List ℕ) → i ≤ to → to ≤ ahead → drop i (take to xs) ++ drop to (take ahead xs) ≡ drop i (take ahead xs)
@@ -169,7 +178,7 @@ used-to s long to {end} e = by (decLt (s .count) to)
 
 -- nothing is between a place and itself
 pub range-none : (to : ℕ) (xs : List ℕ) → drop to (take to xs) ≡ []
-range-none to xs = drop-of-length-le (take to xs) {i = to} (simp length-take (omega arith))
+range-none to xs = none-of xs to to (omega arith)
 
 pub sources-start : record { count = 0; at = replicate 480 0 } ≡ sourcesTo 0
 unfolding sourcesTo sourcesFor starts

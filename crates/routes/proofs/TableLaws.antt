@@ -11,7 +11,7 @@ use native.Mathlib.Omega.{arith}
 use native.Mathlib.Decide.{decLt}
 use lib.Dec.{eqb, ltb}
 use lib.ListN.{length, getD, replicate}
-use borrow.Author.Tests.{eqb-true, eqb-false, ne-eqb, ltb-true}
+use borrow.Author.Tests.{eqb-true, eqb-false, eq-eqb, ne-eqb, ltb-true}
 use Rattle.slices.specs.Part.{part, member}
 use Rattle.slices.proofs.PartLaws.{member-append, member-replicate}
 use Rattle.slices.proofs.SearchLaws.{first-within}
@@ -304,10 +304,18 @@ all-lines = refl
 pub line-at : (i : ℕ) → i < 9 → getD kindLines i 0 ≡ i * 19
 line-at i h = eqb-true _ _ (each-below (λ (j : ℕ). eqb (getD kindLines j 0) (j * 19)) 9 all-lines i h)
 
-pub line-test : (t : List ℕ) (s b i : ℕ) {subsection type first : ℕ} {held : Bool} → i < 9 → subsection ≡ s → type ≡ b → first ≡ getD t (i * 19) 0
-    → held ≡ member type (part 18 (i * 19 + 1) t) → ofLine t s b (getD kindLines i 0) ≡ (eqb first subsection && (not (eqb type 32) && held))
-unfolding ofLine
-line-test t s b i h p q f e = rw (line-at i h, e, f, p, q)
+module _ (t : List ℕ) (s b i : ℕ) {subsection type first : ℕ} (h : i < 9) (p : subsection ≡ s) (q : type ≡ b) (f : first ≡ getD t (i * 19) 0) where
+  line-test : {held : Bool} → held ≡ member type (part 18 (i * 19 + 1) t) → ofLine t s b (getD kindLines i 0) ≡ (eqb first subsection && (not (eqb type 32) && held))
+  unfolding ofLine
+  line-test e = rw (line-at i h, e, f, p, q)
+
+  pub other-subsection : (first ≡ subsection → ⊥) → ofLine t s b (getD kindLines i 0) ≡ false
+  other-subsection n = line-test refl ∙ rw (ne-eqb first subsection n)
+
+  module _ (same : first ≡ subsection) {held : Bool} (e : held ≡ member type (part 18 (i * 19 + 1) t)) {v : Bool} (w : (not (eqb type 32) && held) ≡ v) where
+    -- .. of its subsection: the type decides
+    pub by-type : ofLine t s b (getD kindLines i 0) ≡ v
+    by-type = line-test e ∙ rw (eq-eqb first subsection same) w
 
 pub nine-lines : length kindLines ≡ 9
 unfolding kindLines

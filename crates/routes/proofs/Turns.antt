@@ -5,9 +5,7 @@ use mathlib.Core.Bool.{Bool, true, false, _&&_, _||_}
 use mathlib.Core.List.{List, [], _∷_, _++_, map, map-append}
 use Prim.Native.Nat.{ℕ, _+_, _-_, _≤_, _<_, min}
 use native.Mathlib.Omega.{arith}
-use native.Mathlib.Numerals.{add-one}
-use lib.ListN.{length, getD, take, drop, length-take, drop-of-length-le}
-use lib.Seq.{drop-cons, getD-take}
+use lib.ListN.{length, getD, take, drop}
 use borrow.Author.Tests.{eq-eqb, ne-eqb}
 use Rattle.slices.specs.Part.{part}
 use Rattle.slices.specs.Order.{equal}
@@ -25,7 +23,7 @@ use Rattle.routes.specs.Walk.{isPrimary, followed, endsRoute, primaryAft
 use Rattle.routes.specs.Known.{knows, judgedKnowing, walkKnowing}
 use Rattle.routes.specs.declared.Sources.{Sources}
 use Rattle.routes.proofs.InTurnLaws.{goes-on, stops}
-use Rattle.routes.proofs.SourceLaws.{range-next, range-end, range-join, used-to}
+use Rattle.routes.proofs.SourceLaws.{none-of, first-of, range-next, range-end, range-join, used-to}
 
 -- ---- the first difference of two records, of which k columns are the same
 
@@ -66,14 +64,12 @@ module _ (frozen log sources : List ℕ) (to : ℕ) (k : List ℕ) (i : ℕ) whe
 module _ (frozen log sources : List ℕ) (to : ℕ) (k : List ℕ) (i : ℕ) where
   pub following-end : min to (length sources) ≤ i → following frozen log sources to k i ≡ false
   unfolding following followed
-  following-end h = rw (drop-of-length-le (take to sources) {i = i} (simp length-take (omega arith)))
+  following-end h = rw (none-of sources i to h)
 
   module _ (h : i < min to (length sources)) {next : List ℕ} (e : next ≡ recordAt frozen log (getD sources i 0)) where
     following-cons : following frozen log sources to k i ≡ (equal k (columnsTo 25 next) && (isPrimary (kindOf next) || following frozen log sources to k (i + 1)))
     unfolding following followed
-    following-cons =
-        let q : i < length (take to sources) = simp length-take (omega arith) in
-        rw (add-one, drop-cons (take to sources) i 0 q, getD-take to sources i 0 (omega arith), e)
+    following-cons = rw (first-of sources i to h, e)
 
     pub following-stop : {b : Bool} → b ≡ equal k (columnsTo 25 next) → b ≡ false → following frozen log sources to k i ≡ false
     following-stop p q = following-cons ∙ rw (sym p ∙ q)

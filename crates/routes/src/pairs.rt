@@ -99,10 +99,10 @@ fn kind_among(kinds: &[u8], rec: &[u8]) -> usize
     let mut i = 0;
     while i < KIND_COUNT {
         let at = i * KIND_WIDTH;
-        if (byte_at(kinds, at) == subsection)
-            & ((route_type != b' ') & has(kinds, at + 1, MOST_TYPES, route_type))
-        {
-            return i;
+        if byte_at(kinds, at) == subsection {
+            if (route_type != b' ') & has(kinds, at + 1, MOST_TYPES, route_type) {
+                return i;
+            }
         }
         i += 1;
     }

@@ -1,11 +1,12 @@
 -- The invariant: the lines that are left give the answer. Assumes nothing.
 use mathlib.Core.Path.{_≡_, _∙_}
+use mathlib.Core.Logic.{⊎-elim}
 use Prim.Native.Nat.{_≤_, _-_}
 use native.Mathlib.Nat.{zero-add}
 use Rattle.slices.proofs.SearchLaws.{Come, starts, finds, goes-on, ends}
 use Rattle.columns.specs.Rows.{byteIn}
 use Rattle.routes.specs.Pairs.{ofLine, kindLines}
-use Rattle.routes.proofs.TableLaws.{line-test, nine-lines}
+use Rattle.routes.proofs.TableLaws.{by-type, other-subsection, nine-lines}
 use borrow.Author.Needs.{needs}
 use Rattle.routes.proofs.pairs.kind_among.Statement.{statement}
 use Rattle.routes.proofs.pairs.kind_among.Tie as tie
@@ -46,10 +47,11 @@ has-requires c κs = search needs
 
 returns : tie.Need-returns Inv-loop μ-loop
 returns c =
-    let turn = c .before .before .before in
+    let line = c .before .before .before in
+    let turn = line .before in
     let inv = turn .before .loop .inv in
     finds _ 0 _ 0 _ (inv .3) (rw nine-lines (turn .loop-test .taken))
-    (line-test _ _ _ _ (turn .loop-test .taken) (inv .0) (inv .1) (c .before .before .byte-at3 .ensures) (c .before .has .ensures) ∙ c .if1 .taken)
+    (by-type _ _ _ _ (turn .loop-test .taken) (inv .0) (inv .1) (line .byte-at3 .ensures) (c .before .before .if1 .taken) (c .before .has .ensures) (c .if2 .taken))
     ∙ zero-add _
 
 add-i : tie.Need-add-i Inv-loop μ-loop
@@ -60,13 +62,17 @@ loop-less c = search needs
 
 loop-again : tie.Need-loop-again Inv-loop μ-loop
 loop-again c =
-    let turn = c .before .before .before in
+    let line = c .before in
+    let turn = line .before in
     let inv = turn .before .loop .inv in (
       inv .0,
       inv .1,
       search needs,
       goes-on _ 0 _ 0 _ (inv .3) (rw nine-lines (turn .loop-test .taken))
-          (line-test _ _ _ _ (turn .loop-test .taken) (inv .0) (inv .1) (c .before .before .byte-at3 .ensures) (c .before .has .ensures) ∙ c .if1 .left),
+          (⊎-elim
+          (λ w. by-type _ _ _ _ (turn .loop-test .taken) (inv .0) (inv .1) (line .byte-at3 .ensures) (w .0 .taken) (w .1 .ensures) (w .2 .left))
+          (λ w. other-subsection _ _ _ _ (turn .loop-test .taken) (inv .0) (inv .1) (line .byte-at3 .ensures) (w .left))
+          (c .if1 .came)),
     )
 
 returns-2 : tie.Need-returns-2 Inv-loop μ-loop
