@@ -4,22 +4,22 @@
 use mathlib.Core.Path.{_≡_, refl, sym, ap, _∙_}
 use mathlib.Core.Bool.{true, false, false≢true}
 use mathlib.Core.List.{List, [], _∷_, _++_, map}
-use Prim.Native.Nat.{ℕ, _+_, _*_, _≤_, _<_, min}
+use Prim.Native.Nat.{ℕ, _+_, _≤_, _<_, min}
 use native.Mathlib.Omega.{arith}
-use lib.Dec.{eqb}
 use lib.ListN.{length, getD, take, drop}
 use borrow.Author.Tests.{eqb-true}
 use Rattle.slices.specs.Part.{part}
 use Rattle.slices.specs.Order.{order}
 use Rattle.slices.specs.declared.Ordering.the-variants.{Less}
+use Rattle.slices.proofs.PartLaws.{getD-part}
 use Rattle.slices.proofs.OrderLaws.{order-less, equal-iff}
 use Rattle.columns.specs.ByteSets.{fits}
 use Rattle.columns.specs.Rows.{byteIn}
 use Rattle.columns.specs.Kinds.{kindOf}
 use Rattle.columns.specs.declared.Kind.the-variants.{Primary}
 use Rattle.refusals.specs.declared.Verdict.the-variants.{Accepted}
-use Rattle.leg.specs.Terminator.{terminatorNumber}
-use Rattle.routes.specs.Pairs.{terminatorIn, PairTable, lastLeg, pair}
+use Rattle.leg.specs.declared.terminator.Terminator.{Terminator}
+use Rattle.routes.specs.Pairs.{terminatorIn, kindNumber, mayBegin, mayEnd, firstLeg, lastLeg}
 use Rattle.routes.specs.Places.{keyOf}
 use Rattle.routes.specs.Sources.{recordAt, sourcesIn}
 use Rattle.routes.specs.Stages.{Seen, seen, nothing, awaits, endingStage}
@@ -47,10 +47,23 @@ pub later-than-none : (rec : List ℕ) {b : ℕ} → b ≡ getD rec 0 0 → (b �
 unfolding part
 later-than-none rec {b} e h = let z : 0 < getD rec 0 0 = omega (arith, e, h) in order-less 0 (getD rec 0 0) (part 24 1 []) (part 24 1 rec) z
 
--- the cell of two legs, of which the numbers are at hand
-pub by-cell : {pairs : List ℕ} (before rec : List ℕ) {leg next : ℕ} → PairTable pairs → leg ≡ terminatorNumber (terminatorIn before) → next ≡ terminatorNumber (terminatorIn rec)
-    → eqb (getD pairs (leg * 23 + next) 0) 43 ≡ true → pair (terminatorIn before) (terminatorIn rec) ≡ true
-by-cell before rec t p q e = sym (t .cell (terminatorIn before) (terminatorIn rec)) ∙ (rw (p, q) at e)
+-- the records of one key are of one kind
+pub kind-by-key : (before rec : List ℕ) → keyOf before ≡ keyOf rec → kindNumber before ≡ kindNumber rec
+unfolding kindNumber
+kind-by-key before rec e =
+    let at : (i : ℕ) → i < 25 → getD before (0 + i) 0 ≡ getD rec (0 + i) 0 =
+    λ i h. sym (getD-part 25 0 before i h) ∙ ap (λ (k : List ℕ). getD k i 0) e ∙ getD-part 25 0 rec i h in
+    rw (at 12 (omega arith), at 19 (omega arith))
+
+-- the first and the last leg of a route, of which the kind and the leg are at hand
+module _ (rec : List ℕ) {kind : ℕ} {leg : Terminator} (k : kind ≡ kindNumber rec) (t : leg ≡ terminatorIn rec) where
+  pub may-be-first : mayBegin kind leg ≡ true → firstLeg rec ≡ true
+  unfolding firstLeg
+  may-be-first e = rw (← k, ← t) e
+
+  pub may-be-last : mayEnd kind leg ≡ true → lastLeg rec ≡ true
+  unfolding lastLeg
+  may-be-last e = rw (← k, ← t) e
 
 -- the route goes on behind a leg with the next one, so that is not the last
 module _ (before rec : List ℕ) (a : lone before ≡ true) (f : Follows before rec) (rs : List (List ℕ)) where

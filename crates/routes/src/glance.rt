@@ -1,13 +1,13 @@
 // A quick yes: records that are seen at a glance to stand, since each is known and a primary without continuations, and is behind the one
 // before it in one route. Routes are nearly always so, and are judged again with every correction of theirs. What is not so is not refused
-// here: the walk says what it is. Assumes of its callers, all in this crate, that the table of pairs is right, and so are the numbers of legs.
+// here: the walk says what it is. Assumes of its callers, all in this crate, that the table of pairs is right, and the kind and legs that are at
+// hand are those of the records.
 ghost use mathlib.Core.Path.{_≡_};
 ghost use mathlib.Core.Bool.{true};
-ghost use Prim.Native.Nat.{_<_};
+ghost use Prim.Native.Nat.{_≤_};
 ghost use lib.ListN.{take, drop};
-ghost use Rattle.leg.specs.Terminator.{terminatorNumber};
 ghost use Rattle.refusals.specs.declared.Verdict.the-variants.{Accepted};
-ghost use Rattle.routes.specs.Pairs.{terminatorIn, PairTable};
+ghost use Rattle.routes.specs.Pairs.{terminatorIn, kindNumber, PairTable};
 ghost use Rattle.routes.specs.Known.{walkedKnowing};
 ghost use Rattle.routes.specs.Glance.{lone, Begins, Follows, StandingIn};
 use crate::KEY;
@@ -29,8 +29,9 @@ fn lone(rec: &[u8]) -> bool
     byte_at(rec, NUMBER - 1) == b'0'
 }
 
-// Whether a record may be the first of all. Its route is later than none at all, whose bytes are 0.
-fn begins(rec: &[u8]) -> bool
+// Whether a record may be the first of all, a leg of its route's kind. Its route is later than none at all, whose bytes are 0.
+fn begins(kind: usize, leg: Terminator, rec: &[u8]) -> bool
+    requires { ⌜ (kind ≡ kindNumber (now rec)) × (kind ≤ 9) × (leg ≡ terminatorIn (now rec)) ⌝ }
     ensures { λ r. ⌜ (r ≡ true → Begins (now (rec .entry))) ⌝ }
 {
     if !lone(rec) {
@@ -39,13 +40,18 @@ fn begins(rec: &[u8]) -> bool
     if byte_at(rec, 0) == 0 {
         return false;
     }
-    pairs::first_leg(rec)
+    pairs::may_begin(kind, leg)
 }
 
-// Whether a record may stand behind another in one route. The numbers of their legs are at hand.
-fn follows<'a>(pairs: &[u8], before: &'a [u8], leg: usize, rec: &'a [u8], next: usize) -> bool
-    requires { ⌜ PairTable (now pairs) × (leg ≡ terminatorNumber (terminatorIn (now before))) × (leg < 23)
-        × (next ≡ terminatorNumber (terminatorIn (now rec))) × (next < 23) ⌝ }
+// Whether a record may stand behind another in one route. Their legs are at hand.
+fn follows<'a>(
+    pairs: &[u8],
+    before: &'a [u8],
+    leg: Terminator,
+    rec: &'a [u8],
+    next: Terminator,
+) -> bool
+    requires { ⌜ PairTable (now pairs) × (leg ≡ terminatorIn (now before)) × (next ≡ terminatorIn (now rec)) ⌝ }
     ensures { λ r. ⌜ (r ≡ true → Follows (now (before .entry)) (now (rec .entry))) ⌝ }
 {
     if !lone(rec) {
@@ -56,14 +62,14 @@ fn follows<'a>(pairs: &[u8], before: &'a [u8], leg: usize, rec: &'a [u8], next: 
     }
     let way = compare(before, 26, rec, 26, 3);
     match way {
-        Ordering::Less => pairs::may_follow(pairs, leg, next),
+        Ordering::Less => pairs::pair_in(pairs, leg, next),
         Ordering::Equal => false,
         Ordering::Greater => false,
     }
 }
 
-// Whether the records of some sources, from one on up to another, stand behind a record, each behind the one before it, and the last may end
-// the route.
+// Whether the records of some sources, from one on up to another, stand behind a first, each behind the one before it, and the last may end
+// the route, whose kind and first leg are at hand.
 fn stand_behind<'a>(
     pairs: &[u8],
     frozen: &'a [u8],
@@ -73,14 +79,16 @@ fn stand_behind<'a>(
     from: usize,
     to: usize,
     first: &'a [u8],
+    kind: usize,
+    begun: Terminator,
 ) -> bool
-    requires { ⌜ PairTable (now pairs) ⌝ }
+    requires { ⌜ PairTable (now pairs) × (kind ≡ kindNumber (now first)) × (kind ≤ 9) × (begun ≡ terminatorIn (now first)) ⌝ }
     ensures { λ r. ⌜ (r ≡ true
         → StandingIn (now (known .entry)) (now (frozen .entry)) (now (log .entry)) (now (first .entry)) (now (sources .entry)) from to) ⌝ }
 {
     let end = least(to, sources.len());
     let mut before = first;
-    let mut leg = Terminator::of(first).number();
+    let mut leg = begun;
     let mut i = from;
     while i < end {
         let source = sources[i];
@@ -88,7 +96,7 @@ fn stand_behind<'a>(
             return false;
         }
         let rec = record_at(frozen, log, source);
-        let next = Terminator::of(rec).number();
+        let next = Terminator::of(rec);
         if !follows(pairs, before, leg, rec, next) {
             return false;
         }
@@ -96,7 +104,7 @@ fn stand_behind<'a>(
         leg = next;
         i += 1;
     }
-    pairs::last_leg(before)
+    pairs::may_end(kind, leg)
 }
 
 // Whether the records of some sources, from one on up to another, are seen at a glance to be accepted. No is no answer.
@@ -119,7 +127,9 @@ pub(crate) fn stand<'a>(
         return false;
     }
     let first = record_at(frozen, log, source);
-    if !begins(first) {
+    let kind = pairs::kind_number(first);
+    let leg = Terminator::of(first);
+    if !begins(kind, leg, first) {
         return false;
     }
     stand_behind(
@@ -131,5 +141,7 @@ pub(crate) fn stand<'a>(
         from + 1,
         to,
         first,
+        kind,
+        leg,
     )
 }

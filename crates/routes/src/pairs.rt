@@ -1,12 +1,10 @@
 // Which leg may begin and which may end a route of which kind, and which may follow which: Attachment 5's tables, as specs/LegTable sets
-// them out. Assumes of its callers, all in this crate, that the number of a leg is one of the 23.
+// them out. Assumes of its callers, all in this crate, that a table of pairs is right, and a kind's number one of the nine's or 9.
 ghost use mathlib.Core.Path.{_≡_};
-ghost use Prim.Native.Nat.{_+_, _*_, _≤_, _<_};
-ghost use lib.Dec.{eqb};
-ghost use lib.ListN.{getD};
+ghost use Prim.Native.Nat.{_≤_};
 ghost use Rattle.slices.specs.Search.{firstAt};
 ghost use Rattle.columns.specs.Rows.{byteIn};
-ghost use Rattle.routes.specs.Pairs.{kindLines, ofLine, kindNumber, firstLeg, lastLeg, pair};
+ghost use Rattle.routes.specs.Pairs.{kindLines, ofLine, kindNumber, mayBegin, mayEnd, firstLeg, lastLeg, pair, PairTable};
 use columns::field::Field;
 use leg::terminator::Terminator;
 use slices::byte_at;
@@ -110,43 +108,58 @@ fn kind_among(kinds: &[u8], rec: &[u8]) -> usize
 }
 
 // The place of the kind of a record's route among the nine, or 9 where it is of none, which is refused by 3 before anything asks.
-fn kind_number(rec: &[u8]) -> usize
+pub(crate) fn kind_number(rec: &[u8]) -> usize
     ensures { λ r. ⌜ (r ≡ kindNumber (now (rec .entry))) × (r ≤ 9) ⌝ }
 {
     kind_among(&KINDS, rec)
 }
 
-// Whether the record may be the first leg of its route.
+// Whether a leg may be the first of a route of a kind, and whether it may be the last.
+pub(crate) fn may_begin(kind: usize, t: Terminator) -> bool
+    requires { ⌜ kind ≤ 9 ⌝ }
+    ensures { λ r. ⌜ r ≡ mayBegin kind t ⌝ }
+{
+    let n = t.number();
+    byte_at(&BEGINNINGS, kind * LEGS + n) == b'+'
+}
+
+pub(crate) fn may_end(kind: usize, t: Terminator) -> bool
+    requires { ⌜ kind ≤ 9 ⌝ }
+    ensures { λ r. ⌜ r ≡ mayEnd kind t ⌝ }
+{
+    let n = t.number();
+    byte_at(&ENDINGS, kind * LEGS + n) == b'+'
+}
+
+// Whether the record may be the first leg of its route, and whether it may be the last.
 pub(crate) fn first_leg(rec: &[u8]) -> bool
     ensures { λ r. ⌜ r ≡ firstLeg (now (rec .entry)) ⌝ }
 {
-    let k = kind_number(rec);
-    let n = Terminator::of(rec).number();
-    byte_at(&BEGINNINGS, k * LEGS + n) == b'+'
+    let kind = kind_number(rec);
+    let t = Terminator::of(rec);
+    may_begin(kind, t)
 }
 
-// Whether the record may be the last leg of its route.
 pub(crate) fn last_leg(rec: &[u8]) -> bool
     ensures { λ r. ⌜ r ≡ lastLeg (now (rec .entry)) ⌝ }
 {
-    let k = kind_number(rec);
-    let n = Terminator::of(rec).number();
-    byte_at(&ENDINGS, k * LEGS + n) == b'+'
+    let kind = kind_number(rec);
+    let t = Terminator::of(rec);
+    may_end(kind, t)
 }
 
-// Whether by a table of pairs a leg may follow another, both by their numbers. The table is lent: whoever names it has it made anew.
-pub(crate) fn may_follow(pairs: &[u8], leg: usize, next: usize) -> bool
-    requires { ⌜ (leg < 23) × (next < 23) ⌝ }
-    ensures { λ r. ⌜ r ≡ eqb (getD (now (pairs .entry)) (leg * 23 + next) 0) 43 ⌝ }
+// Whether a leg of u may follow a leg of t within a route, by the table of pairs. That is lent, since whoever names it has it made anew.
+pub(crate) fn pair_in(pairs: &[u8], t: Terminator, u: Terminator) -> bool
+    requires { ⌜ PairTable (now pairs) ⌝ }
+    ensures { λ r. ⌜ r ≡ pair t u ⌝ }
 {
-    byte_at(pairs, leg * LEGS + next) == b'+'
+    let m = t.number();
+    let n = u.number();
+    byte_at(pairs, m * LEGS + n) == b'+'
 }
 
-// Whether a leg of u may follow a leg of t within a route.
 pub(crate) fn pair(t: Terminator, u: Terminator) -> bool
     ensures { λ r. ⌜ r ≡ pair t u ⌝ }
 {
-    let leg = t.number();
-    let next = u.number();
-    may_follow(&PAIRS, leg, next)
+    pair_in(&PAIRS, t, u)
 }

@@ -3,7 +3,6 @@ use mathlib.Core.Path.{sym, _∙_}
 use mathlib.Core.Bool.{false≢true}
 use Rattle.slices.proofs.Cases.{is-true}
 use Rattle.slices.proofs.OrderLaws.{equal-iff}
-use Rattle.routes.proofs.GlanceLaws.{by-cell}
 use borrow.Author.Needs.{needs}
 use Rattle.routes.proofs.glance.follows.Statement.{statement}
 use Rattle.routes.proofs.glance.follows.Tie as tie
@@ -26,8 +25,8 @@ compare-requires c κs = search needs
 enum-told : tie.Need-enum-told
 enum-told c = search needs
 
-may-follow-requires : tie.Need-may-follow-requires
-may-follow-requires c κs = search needs
+pair-in-requires : tie.Need-pair-in-requires
+pair-in-requires c κs = search needs
 
 enum-told-2 : tie.Need-enum-told-2
 enum-told-2 c = search needs
@@ -44,7 +43,7 @@ returns-3 c e =
       single = sym (single .before .lone .ensures) ∙ is-true _ (single .if1 .left);
       route = equal-iff _ _ .0 (sym (route .same .ensures) ∙ is-true _ (way .before .if2 .left));
       rises = sym (way .compare .ensures) ∙ c .before .enum-told .given .1;
-      fits = by-cell _ _ (pre .0) (pre .1) (pre .3) (sym (c .may-follow .ensures) ∙ e);
+      fits = rw (← pre .1, ← pre .2) (sym (c .pair-in .ensures) ∙ e);
     }
 
 returns-4 : tie.Need-returns-4
@@ -63,7 +62,7 @@ follows-spec =
     returns-2
     compare-requires
     enum-told
-    may-follow-requires
+    pair-in-requires
     enum-told-2
     enum-told-3
     returns-3

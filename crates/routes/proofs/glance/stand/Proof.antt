@@ -30,8 +30,14 @@ returns-2 c e = absurd (false≢true e)
 record-at-requires : tie.Need-record-at-requires
 record-at-requires c κs = search needs
 
+kind-number-requires : tie.Need-kind-number-requires
+kind-number-requires c κs = search needs
+
+of-requires : tie.Need-of-requires
+of-requires c κs = search needs
+
 begins-requires : tie.Need-begins-requires
-begins-requires c κs = search needs
+begins-requires c κs = (c .before .kind-number .ensures .0, c .before .kind-number .ensures .1, c .of .ensures)
 
 returns-3 : tie.Need-returns-3
 returns-3 c e = absurd (false≢true e)
@@ -44,12 +50,14 @@ add-stand-behind c = search needs
 
 stand-behind-requires : tie.Need-stand-behind-requires
 unfolding pairsTable
-stand-behind-requires c κs = pairs-table
+stand-behind-requires c κs =
+    let numbered = c .before .before .before in
+    (pairs-table, numbered .before .kind-number .ensures .0, numbered .before .kind-number .ensures .1, numbered .of .ensures)
 
 returns-4 : tie.Need-returns-4
 returns-4 c e =
     let begun = c .before .before in
-    let found = begun .before .before in
+    let found = begun .before .before .before .before in
     let asked = found .before .before in
     let some = asked .before .before in
     stands _ _ _ _ _ _ (omega (arith, some .if1 .left, some .before .least .ensures)) (sym (asked .knows .ensures) ∙ is-true _ (found .before .if2 .left)) (found .record-at .ensures)
@@ -66,6 +74,8 @@ stand-spec =
     knows-requires
     returns-2
     record-at-requires
+    kind-number-requires
+    of-requires
     begins-requires
     returns-3
     slice-aggregate-stand-behind
