@@ -1,7 +1,7 @@
-// A quick yes: records that are seen at a glance to stand, since each is known and a primary without continuations, and is behind the one
-// before it in one route. Routes are nearly always so, and are judged again with every correction of theirs. What is not so is not refused
-// here: the walk says what it is. Assumes of its callers, all in this crate, that the table of pairs is right, and the kind and legs that are at
-// hand are those of the records.
+// A quick yes: records that are seen at a glance to stand, since each is known, is a primary without continuations, and is behind the one
+// before it in one route. Routes are nearly always so, and a route is judged again with every correction of it. What is not so is not
+// refused here: the walk says what it is. Assumes of its callers, all in this crate, that the table of pairs is right, and that the kind and
+// the legs at hand are the records' own.
 ghost use mathlib.Core.Path.{_≡_};
 ghost use mathlib.Core.Bool.{true};
 ghost use Prim.Native.Nat.{_≤_};
@@ -29,7 +29,8 @@ fn lone(rec: &[u8]) -> bool
     byte_at(rec, NUMBER - 1) == b'0'
 }
 
-// Whether a record may be the first of all, a leg of its route's kind. Its route is later than none at all, whose bytes are 0.
+// Whether a record may come first: it begins its route, whose kind and first leg are at hand, and this is later than none at all, which is
+// one of nothing but 0.
 fn begins(kind: usize, leg: Terminator, rec: &[u8]) -> bool
     requires { ⌜ (kind ≡ kindNumber (now rec)) × (kind ≤ 9) × (leg ≡ terminatorIn (now rec)) ⌝ }
     ensures { λ r. ⌜ (r ≡ true → Begins (now (rec .entry))) ⌝ }
@@ -43,7 +44,7 @@ fn begins(kind: usize, leg: Terminator, rec: &[u8]) -> bool
     pairs::may_begin(kind, leg)
 }
 
-// Whether a record may stand behind another in one route. Their legs are at hand.
+// Whether a record may stand behind another in one route. The legs of both are at hand.
 fn follows<'a>(
     pairs: &[u8],
     before: &'a [u8],
@@ -69,7 +70,7 @@ fn follows<'a>(
 }
 
 // Whether the records of some sources, from one on up to another, stand behind a first, each behind the one before it, and the last may end
-// the route, whose kind and first leg are at hand.
+// the route, whose kind and first leg are at hand. The terminator of each is found once: it is asked behind the one before, and before the next.
 fn stand_behind<'a>(
     pairs: &[u8],
     frozen: &'a [u8],

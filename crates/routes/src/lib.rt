@@ -229,7 +229,8 @@ fn finish<'a>(frozen: &'a [u8], log: &'a [u8], sources: Sources, from: usize, to
 
 // Judges the records of a range of sources, a route of them for example, in sequence and counted from its start. The range counts from
 // 0, `to` is past its last, and what is past the sources that count is cut off. A record that the table knows is taken to be legal by itself:
-// where what the table knows is so, this is `judge_range`, at the cost of comparing alone.
+// where what the table knows is so, this is `judge_range`, at the cost of comparing alone; and where all is seen at a glance to stand, at that of
+// comparing each with the one before it.
 pub fn judge_known<'a>(
     frozen: &'a [u8],
     log: &'a [u8],
