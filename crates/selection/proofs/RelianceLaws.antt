@@ -1,12 +1,13 @@
 -- Laws of what the lines of an index rely on, as the loops that find it ask for them.
 -- Assumes nothing.
 use mathlib.Core.Path.{_≡_, refl, sym, ap, _∙_}
-use mathlib.Core.Bool.{Bool, cond, _&&_}
+use mathlib.Core.Bool.{Bool, true, false, cond, _&&_}
 use mathlib.Core.List.{List, _++_}
 use Prim.Native.Nat.{ℕ, zero, suc, _+_, _-_, _≤_, _<_}
 use native.Mathlib.Omega.{arith}
 use native.Mathlib.Nat.{sub-zero}
 use native.Mathlib.Numerals.{add-one}
+use borrow.Author.Tests.{lt-ltb, le-ltb}
 use lib.Dec.{ltb}
 use lib.ListN.{length, getD, set, replicate, List·getD-append}
 use lib.Seq.{sets}
@@ -17,29 +18,63 @@ use Rattle.routes.specs.Places.{keyOf}
 use Rattle.routes.specs.Sources.{logSource, recordAt}
 use Rattle.corrections.specs.declared.Index.{Index}
 use Rattle.applying.specs.Apply.{entryAt, entriesFrom, recordOfLine}
-use Rattle.selection.specs.Reliance.{lastBefore, reliedBy, reliances}
+use Rattle.selection.specs.Reliance.{lastBefore, reliedBy, ReliedOn, reliances}
 
--- ---- the lines before line k, of which those from j on are left
+-- ---- the lines before line k, of which the first j are left
 
-module _ (f l : List ℕ) (index : Index) (k : ℕ) where
-  -- what is relied on where so much was found before line j
-  unfoldable pub reliedFrom : (found j : ℕ) → ℕ
-  reliedFrom found j =
-      lastBefore f l (getD (index .correction) k 0) (keyOf (recordOfLine f l (entryAt index k))) found (entriesFrom index j (k - j))
+-- the last of some lines either counts, or it may be left out
+last-line : (f l : List ℕ) (n : ℕ) (key : List ℕ) (index : Index) (found i j : ℕ)
+    → lastBefore f l n key found (entriesFrom index i (suc j))
+    ≡ cond (ltb (getD (index .correction) (i + j) 0) n && equal key (keyOf (recordOfLine f l (entryAt index (i + j))))) (getD (index .correction) (i + j) 0)
+    (lastBefore f l n key found (entriesFrom index i j))
+unfolding lastBefore entriesFrom
+last-line f l n key index found i zero = let e : i + 0 ≡ i = omega arith in rw e
+last-line f l n key index found i (suc j) = let e : i + suc j ≡ i + 1 + j = omega arith in rw e (last-line f l n key index _ (i + 1) j)
 
-  pub relied-start : reliedBy f l index k ≡ reliedFrom 0 0
-  unfolding reliedBy reliedFrom
-  relied-start = rw (sub-zero)
+module _ (f l ats of : List ℕ) (k : ℕ) where
+  abbrev own : ℕ → List ℕ
+  own j = recordAt f l (logSource (getD ats j 0))
 
-  pub relied-end : (found j : ℕ) {whole : ℕ} → whole ≡ reliedFrom found j → k ≤ j → found ≡ whole
-  unfolding reliedFrom lastBefore entriesFrom
-  relied-end found j w h = let z : k - j ≡ 0 = omega arith in sym (w ∙ rw z)
+  -- what line k relies on stands among the first j lines
+  unfoldable pub Among : ℕ → Type 0
+  Among j = (index : Index) → index .at ≡ ats → index .correction ≡ of
+      → reliedBy f l index k ≡ lastBefore f l (getD of k 0) (keyOf (own k)) 0 (entriesFrom index 0 j)
 
-  pub relied-next : (found j : ℕ) {whole own other : ℕ} {same : Bool} {next : ℕ} → whole ≡ reliedFrom found j → j < k
-      → own ≡ logSource (getD (index .at) k 0) → other ≡ logSource (getD (index .at) j 0) → same ≡ equal (keyOf (recordAt f l own)) (keyOf (recordAt f l other))
-      → next ≡ cond (ltb (getD (index .correction) j 0) (getD (index .correction) k 0) && same) (getD (index .correction) j 0) found → whole ≡ reliedFrom next (j + 1)
-  unfolding reliedFrom lastBefore entriesFrom
-  relied-next found j w h p q s n = w ∙ rw (one-less k j h, n, s, p, q)
+  pub relied-start : Among k
+  unfolding Among reliedBy
+  relied-start index p q = rw (p, q)
+
+  pub relied-none : (j : ℕ) → Among j → j ≤ 0 → ReliedOn f l ats of k 0
+  unfolding Among lastBefore entriesFrom
+  relied-none j a h index p q = let z : j ≡ 0 = omega arith in sym (a index p q ∙ rw z)
+
+  module _ (j : ℕ) (a : Among j) (some : 0 < j) where
+    by-last : (b : Bool) → (ltb (getD of (j - 1) 0) (getD of k 0) && equal (keyOf (own k)) (keyOf (own (j - 1)))) ≡ b
+        → (index : Index) → index .at ≡ ats → index .correction ≡ of
+        → reliedBy f l index k ≡ cond b (getD of (j - 1) 0) (lastBefore f l (getD of k 0) (keyOf (own k)) 0 (entriesFrom index 0 (j - 1)))
+    unfolding Among
+    by-last b t index p q =
+        let e : j ≡ suc (j - 1) = omega arith in
+        let z : 0 + (j - 1) ≡ j - 1 = omega arith in
+        a index p q ∙ ap (λ (i : ℕ). lastBefore f l (getD of k 0) (keyOf (own k)) 0 (entriesFrom index 0 i)) e
+        ∙ last-line f l (getD of k 0) (keyOf (own k)) index 0 0 (j - 1) ∙ rw (z, p, q, t)
+
+    pub compared : {same : Bool} {rec other : List ℕ} {source : ℕ} → same ≡ equal (keyOf rec) (keyOf other) → rec ≡ own k → other ≡ recordAt f l source
+        → source ≡ logSource (getD ats (j - 1) 0) → same ≡ equal (keyOf (own k)) (keyOf (own (j - 1)))
+    compared e r o s = e ∙ rw (r, o, s)
+
+    -- the line before is of an earlier correction, and on the route; it is of no earlier one; it is on another route
+    pub relied-found : {same : Bool} → getD of (j - 1) 0 < getD of k 0 → same ≡ equal (keyOf (own k)) (keyOf (own (j - 1))) → same ≡ true
+        → ReliedOn f l ats of k (getD of (j - 1) 0)
+    relied-found h e t index p q = sym (by-last true (rw (lt-ltb (getD of (j - 1) 0) (getD of k 0) h) (sym e ∙ t)) index p q)
+
+    pub relied-later : getD of k 0 ≤ getD of (j - 1) 0 → Among (j - 1)
+    unfolding Among
+    relied-later h = by-last false (rw (le-ltb (getD of (j - 1) 0) (getD of k 0) h))
+
+    pub relied-other : {same : Bool} → getD of (j - 1) 0 < getD of k 0 → same ≡ equal (keyOf (own k)) (keyOf (own (j - 1))) → same ≡ false → Among (j - 1)
+    unfolding Among
+    relied-other h e t = by-last false (rw (lt-ltb (getD of (j - 1) 0) (getD of k 0) h) (sym e ∙ t))
 
 -- ---- all lines, of which those from k on are left
 

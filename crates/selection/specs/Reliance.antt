@@ -16,6 +16,10 @@ use Rattle.applying.specs.Apply.{entryAt, entriesFrom, recordOfLine}
 
 -- ---- one line
 
+-- each of some lines lies within the longest log
+abbrev pub AllWithin : List ℕ → Type 0
+AllWithin ats = (k : ℕ) → getD ats k 0 ≤ 60000
+
 module _ (frozen log : List ℕ) where
   -- the correction of the last of some lines that is on a route and before correction n; where there is none, what was found before
   unfoldable pub lastBefore : (n : ℕ) (key : List ℕ) (found : ℕ) → List Entry → ℕ
@@ -26,6 +30,10 @@ module _ (frozen log : List ℕ) where
   -- the last earlier correction on the route of line k; 0 where there is none
   unfoldable pub reliedBy : Index → ℕ → ℕ
   reliedBy index k = lastBefore (entryAt index k .correction) (keyOf (recordOfLine frozen log (entryAt index k))) 0 (entriesFrom index 0 k)
+
+  -- r is that of every index whose lines lie at these places, and are of these corrections
+  abbrev pub ReliedOn : (ats of : List ℕ) (k r : ℕ) → Type 0
+  ReliedOn ats of k r = (index : Index) → index .at ≡ ats → index .correction ≡ of → r ≡ reliedBy index k
 
   -- the same of n lines from k on
   unfoldable pub reliances : Index → (k n : ℕ) → List ℕ

@@ -1,48 +1,55 @@
 // Which corrections another one relies on: those wanted, and with each the last earlier correction on every route that it touches.
 // `relied_on` and `reliances` assume of their callers what the lines of an index do; the marking assumes nothing.
 //
-// Every two lines are compared once, in 25 bytes, and every correction is gone into once.
+// A line is compared, in 25 bytes, with those of earlier corrections before it, back to the first on its route: at most every two lines once.
+// Every correction is gone into once.
 ghost use mathlib.Core.Path.{_≡_};
-ghost use mathlib.Core.Bool.{cond};
 ghost use mathlib.Core.List.{_++_};
 ghost use Prim.Native.Nat.{_-_, _≤_, _<_};
 ghost use lib.ListN.{length, replicate};
 ghost use Rattle.applying.specs.Apply.{Within};
-ghost use Rattle.selection.specs.Reliance.{reliedBy, reliances, namedBy, Marked, Taken};
-use applying::same_route;
+ghost use Rattle.selection.specs.Reliance.{AllWithin, ReliedOn, reliances, namedBy, Marked, Taken};
 use corrections::Index;
 use corrections::MOST_CHANGES;
 use corrections::MOST_CORRECTIONS;
 use routes::log_source;
+use routes::record_at;
+use slices::same;
+
+// How many bytes of a record say its route.
+const ROUTE: usize = 25;
 
 // How many bytes marks have: one for each correction, and one for 0, which is none.
 pub(crate) const MARKS: usize = MOST_CORRECTIONS + 1;
 
-// The later of what was found and the correction of one more line, where that line counts.
-fn later(found: u32, of: u32, counts: bool) -> u32
-    ensures { λ r. ⌜ r ≡ cond counts of found ⌝ }
+// The last correction before that of line k which has a line on the same route; 0 where there is none. `ats` has where each line lies in the
+// log, `of` its correction. The lines are gone through backward from k, and the first that counts has the answer.
+fn relied_on<'a>(
+    frozen: &'a [u8],
+    log: &'a [u8],
+    ats: &[u32; MOST_CHANGES],
+    of: &[u32; MOST_CHANGES],
+    k: usize,
+) -> u32
+    requires { ⌜ (k < 444) × AllWithin (now ats) ⌝ }
+    ensures { λ r. ⌜ ReliedOn (now (frozen .entry)) (now (log .entry)) (now (ats .entry)) (now (of .entry)) k r ⌝ }
 {
-    if counts { of } else { found }
-}
-
-// The last correction before that of line k which has a line on the same route; 0 where there is none.
-fn relied_on<'a>(frozen: &'a [u8], log: &'a [u8], index: Index, k: usize) -> u32
-    requires { ⌜ (k < 444) × Within index ⌝ }
-    ensures { λ r. ⌜ r ≡ reliedBy (now (frozen .entry)) (now (log .entry)) index k ⌝ }
-{
-    let at = index.at[k];
-    let n = index.correction[k];
-    let source = log_source(at as u16);
-    let mut found = 0;
-    let mut j = 0;
-    while j < k {
-        let other = index.at[j];
-        let of = index.correction[j];
-        let same = same_route(frozen, log, source, log_source(other as u16));
-        found = later(found, of, (of < n) & same);
-        j += 1;
+    let here = ats[k];
+    let n = of[k];
+    let rec = record_at(frozen, log, log_source(here as u16));
+    let mut j = k;
+    while 0 < j {
+        j -= 1;
+        let earlier = of[j];
+        if earlier < n {
+            let there = ats[j];
+            let other = record_at(frozen, log, log_source(there as u16));
+            if same(rec, 0, other, 0, ROUTE) {
+                return earlier;
+            }
+        }
     }
-    found
+    0
 }
 
 // What each line relies on, in the order of the index; zeros past its lines.
@@ -51,10 +58,12 @@ pub(crate) fn reliances<'a>(frozen: &'a [u8], log: &'a [u8], index: Index) -> [u
     ensures { λ r. ⌜ r ≡ reliances (now (frozen .entry)) (now (log .entry)) index 0 (index .count) ++ replicate (444 - index .count) 0 ⌝ }
 {
     let count = index.count;
+    let ats = index.at;
+    let of = index.correction;
     let mut relied = [0u32; MOST_CHANGES];
     let mut k = 0;
     while k < count {
-        let n = relied_on(frozen, log, index, k);
+        let n = relied_on(frozen, log, &ats, &of, k);
         relied[k] = n;
         k += 1;
     }

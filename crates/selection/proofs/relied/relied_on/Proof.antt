@@ -1,30 +1,26 @@
--- The invariant: the lines that are left, after what was found, give the answer. Assumes nothing.
-use Rattle.selection.specs.Reliance.{reliedBy}
-use Rattle.routes.specs.Sources.{logSource}
-use lib.ListN.{getD}
+-- The invariant: what the line relies on stands among the lines that are left. Assumes nothing.
+use mathlib.Core.Path.{_≡_, ap, _∙_}
 use Prim.Native.Nat.{_-_, _≤_}
-use mathlib.Core.Path.{_≡_, refl}
-use Rattle.selection.proofs.RelianceLaws.{reliedFrom, relied-start, relied-next, relied-end}
+use lib.ListN.{getD}
+use Rattle.routes.specs.Sources.{logSource, recordAt}
+use Rattle.selection.proofs.RelianceLaws.{Among, compared, relied-start, relied-none, relied-found, relied-later, relied-other}
 use borrow.Author.Needs.{needs}
 use native.Mathlib.Omega.{arith}
 use Rattle.selection.proofs.relied.relied_on.Statement.{statement}
 use Rattle.selection.proofs.relied.relied_on.Tie as tie
 
 abbrev Inv-loop : tie.InvT-loop
-Inv-loop frozen log k index at n source found₀ j₀ found j =
-    (j ≤ k)
-    × (source ≡ logSource (getD (index .at) k 0))
-    × (n ≡ getD (index .correction) k 0)
-    × (reliedBy frozen log index k ≡ reliedFrom frozen log index k found j)
+Inv-loop frozen log ats of k here n rec j₀ j =
+    (j ≤ k) × (rec ≡ recordAt frozen log (logSource (getD ats k 0))) × Among frozen log ats of k j
 
 abbrev μ-loop : tie.MeasureT-loop
-μ-loop frozen log k index at n source found₀ j₀ found j = k - j
+μ-loop frozen log ats of k here n rec j₀ j = j
 
-mul-at : tie.Need-mul-at Inv-loop μ-loop
-mul-at c = search needs
+mul-here : tie.Need-mul-here Inv-loop μ-loop
+mul-here c = search needs
 
-element-copy-out-at : tie.Need-element-copy-out-at Inv-loop μ-loop
-element-copy-out-at c = search needs
+element-copy-out-here : tie.Need-element-copy-out-here Inv-loop μ-loop
+element-copy-out-here c = search needs
 
 mul-n : tie.Need-mul-n Inv-loop μ-loop
 mul-n c = search needs
@@ -38,37 +34,48 @@ cast-log-source c = let start = c .before .before .before .before in omega (arit
 log-source-requires : tie.Need-log-source-requires Inv-loop μ-loop
 log-source-requires c κs = search needs
 
+record-at-requires : tie.Need-record-at-requires Inv-loop μ-loop
+record-at-requires c κs = search needs
+
 loop-holds : tie.Need-loop-holds Inv-loop μ-loop
-loop-holds c = (omega arith, c .log-source .ensures, refl, relied-start _ _ _ _)
+loop-holds c = (omega arith, c .record-at .ensures ∙ ap (recordAt _ _) (c .before .log-source .ensures), relied-start _ _ _ _ _)
 
-mul-other : tie.Need-mul-other Inv-loop μ-loop
-mul-other c = search needs
+sub-j : tie.Need-sub-j Inv-loop μ-loop
+sub-j c = search needs
 
-element-copy-out-other : tie.Need-element-copy-out-other Inv-loop μ-loop
-element-copy-out-other c = search needs
+mul-earlier : tie.Need-mul-earlier Inv-loop μ-loop
+mul-earlier c = search needs
 
-mul-of : tie.Need-mul-of Inv-loop μ-loop
-mul-of c = search needs
+element-copy-out-earlier : tie.Need-element-copy-out-earlier Inv-loop μ-loop
+element-copy-out-earlier c = search needs
 
-element-copy-out-of : tie.Need-element-copy-out-of Inv-loop μ-loop
-element-copy-out-of c = search needs
+mul-there : tie.Need-mul-there Inv-loop μ-loop
+mul-there c = search needs
+
+element-copy-out-there : tie.Need-element-copy-out-there Inv-loop μ-loop
+element-copy-out-there c = search needs
 
 cast-log-source-2 : tie.Need-cast-log-source-2 Inv-loop μ-loop
 cast-log-source-2 c =
-    let turn = c .before .before .before in
-    omega (arith, turn .before .before .before .before .before .before .pre .1 (turn .loop .j))
+    let turn = c .before .before .before .before in
+    omega (arith, turn .before .before .before .before .before .before .before .pre .1 (turn .loop .j - 1))
 
 log-source-requires-2 : tie.Need-log-source-requires-2 Inv-loop μ-loop
 log-source-requires-2 c κs = search needs
 
-same-route-requires : tie.Need-same-route-requires Inv-loop μ-loop
-same-route-requires c κs = search needs
+record-at-requires-2 : tie.Need-record-at-requires-2 Inv-loop μ-loop
+record-at-requires-2 c κs = search needs
 
-later-requires : tie.Need-later-requires Inv-loop μ-loop
-later-requires c κs = search needs
+same-requires : tie.Need-same-requires Inv-loop μ-loop
+same-requires c κs = search needs
 
-add-j : tie.Need-add-j Inv-loop μ-loop
-add-j c = search needs
+returns : tie.Need-returns Inv-loop μ-loop
+returns c =
+    let other = c .before .before in
+    let turn = other .before .before .before .before .before in
+    let inv = turn .before .loop .inv in
+    let e = compared _ _ _ _ _ _ (inv .2) (turn .loop-test .taken) (c .before .same .ensures) (inv .1) (other .record-at2 .ensures) (other .before .log-source2 .ensures) in
+    relied-found _ _ _ _ _ _ (inv .2) (turn .loop-test .taken) (other .before .before .before .if1 .taken) e (c .if2 .taken)
 
 loop-less : tie.Need-loop-less Inv-loop μ-loop
 loop-less c = search needs
@@ -76,12 +83,22 @@ loop-less c = search needs
 loop-again : tie.Need-loop-again Inv-loop μ-loop
 loop-again c =
     let other = c .before .before in
-    let turn = other .before .before .before in
+    let turn = other .before .before .before .before .before in
     let inv = turn .before .loop .inv in
-    (search needs, inv .1, inv .2, relied-next _ _ _ _ _ _ (inv .3) (turn .loop-test .taken) (inv .1) (other .log-source2 .ensures) (c .before .same-route .ensures) (c .later .ensures))
+    let e = compared _ _ _ _ _ _ (inv .2) (turn .loop-test .taken) (c .before .same .ensures) (inv .1) (other .record-at2 .ensures) (other .before .log-source2 .ensures) in
+    (search needs, inv .1, relied-other _ _ _ _ _ _ (inv .2) (turn .loop-test .taken) (other .before .before .before .if1 .taken) e (c .if2 .left))
 
-returns : tie.Need-returns Inv-loop μ-loop
-returns c = relied-end _ _ _ _ _ _ (c .before .loop .inv .3) (c .loop-test .left)
+loop-less-2 : tie.Need-loop-less-2 Inv-loop μ-loop
+loop-less-2 c = search needs
+
+loop-again-2 : tie.Need-loop-again-2 Inv-loop μ-loop
+loop-again-2 c =
+    let turn = c .before .before in
+    let inv = turn .before .loop .inv in
+    (search needs, inv .1, relied-later _ _ _ _ _ _ (inv .2) (turn .loop-test .taken) (c .if1 .left))
+
+returns-2 : tie.Need-returns-2 Inv-loop μ-loop
+returns-2 c = relied-none _ _ _ _ _ _ (c .before .loop .inv .2) (c .loop-test .left)
 
 pub relied-on-spec : {M : Type 1} → statement M
 relied-on-spec =
@@ -89,22 +106,26 @@ relied-on-spec =
     (tie.spec
     Inv-loop
     μ-loop
-    mul-at
-    element-copy-out-at
+    mul-here
+    element-copy-out-here
     mul-n
     element-copy-out-n
     cast-log-source
     log-source-requires
+    record-at-requires
     loop-holds
-    mul-other
-    element-copy-out-other
-    mul-of
-    element-copy-out-of
+    sub-j
+    mul-earlier
+    element-copy-out-earlier
+    mul-there
+    element-copy-out-there
     cast-log-source-2
     log-source-requires-2
-    same-route-requires
-    later-requires
-    add-j
+    record-at-requires-2
+    same-requires
+    returns
     loop-less
     loop-again
-    returns)
+    loop-less-2
+    loop-again-2
+    returns-2)
