@@ -47,6 +47,14 @@ module _ (frozen log : List ℕ) where
 unfoldable pub namedBy : (of relied : List ℕ) (c k : ℕ) → ℕ
 namedBy of relied c k = cond (eqb (getD of k 0) c && ltb (getD relied k 0) c) (getD relied k 0) 0
 
+-- no line of a correction that can be marked stands before the first line that a table has for it; none stands at the end that another has, or
+-- behind it
+unfoldable pub NoneBefore : (of firsts : List ℕ) → Type 0
+NoneBefore of firsts = (k : ℕ) → k < length of → getD of k 0 < 201 → getD firsts (getD of k 0) 0 ≤ k
+
+unfoldable pub NoneBehind : (of ends : List ℕ) → Type 0
+NoneBehind of ends = (k : ℕ) → k < length of → getD of k 0 < 201 → k < getD ends (getD of k 0) 0
+
 -- correction c relies on correction p
 pub record Relies (of relied : List ℕ) (c p : ℕ) : Type 0 where
   pub line : ℕ

@@ -1,14 +1,15 @@
 // Which corrections another one relies on: those wanted, and with each the last earlier correction on every route that it touches.
-// `relied_on` and `reliances` assume of their callers what the lines of an index do; the marking assumes nothing.
+// `relied_on` and `reliances` assume of their callers what the lines of an index do, and `mark` that its tables are those of the lines; the
+// rest assumes nothing.
 //
-// A line is compared, in 25 bytes, with those of earlier corrections before it, back to the first on its route: at most every two lines once.
-// Every correction is gone into once.
+// A line is compared, in 25 bytes, with the lines of earlier corrections before it, back to the first on its route: at most every two lines once.
+// Every correction that is taken is gone into once, and of its own lines each is looked at.
 ghost use mathlib.Core.Path.{_≡_};
 ghost use mathlib.Core.List.{_++_};
 ghost use Prim.Native.Nat.{_-_, _≤_, _<_};
 ghost use lib.ListN.{length, replicate};
 ghost use Rattle.applying.specs.Apply.{Within};
-ghost use Rattle.selection.specs.Reliance.{AllWithin, ReliedOn, reliances, namedBy, Marked, Taken};
+ghost use Rattle.selection.specs.Reliance.{AllWithin, ReliedOn, reliances, namedBy, NoneBefore, NoneBehind, Marked, Taken};
 use corrections::Index;
 use corrections::MOST_CHANGES;
 use corrections::MOST_CORRECTIONS;
@@ -85,9 +86,50 @@ fn named<'a>(of: &'a [u32], relied: &'a [u32], c: usize, k: usize) -> usize
     if (owner == c) & (p < c) { p } else { 0 }
 }
 
+// Where the lines of each correction begin: none stands before that line.
+fn firsts_of(of: &[u32]) -> [usize; MARKS]
+    ensures { λ r. ⌜ NoneBefore (now (of .entry)) r ⌝ }
+{
+    let mut firsts = [0usize; MARKS];
+    let mut k = of.len();
+    while 0 < k {
+        k -= 1;
+        let c = of[k] as usize;
+        if c < MARKS {
+            firsts[c] = k;
+        }
+    }
+    firsts
+}
+
+// Where they end: none stands there, or behind it.
+fn ends_of(of: &[u32]) -> [usize; MARKS]
+    ensures { λ r. ⌜ NoneBehind (now (of .entry)) r ⌝ }
+{
+    let mut ends = [0usize; MARKS];
+    let mut k = 0;
+    while k < of.len() {
+        let c = of[k] as usize;
+        k += 1;
+        if c < MARKS {
+            ends[c] = k;
+        }
+    }
+    ends
+}
+
 // Marks correction c and all that it relies on, by recursion to smaller numbers. The mark of c comes last, so that at each call what a
-// marked correction relies on is marked already, and a marked correction need not be gone into again.
-fn mark<'a>(of: &'a [u32], relied: &'a [u32], marks: &mut [u8], c: usize)
+// marked correction relies on is marked already, and a marked correction need not be gone into again. Where the lines of one correction stand
+// together, as a log has them, no line of another is looked at.
+fn mark<'a>(
+    of: &'a [u32],
+    relied: &'a [u32],
+    firsts: &[usize; MARKS],
+    ends: &[usize; MARKS],
+    marks: &mut [u8],
+    c: usize,
+)
+    requires { ⌜ (length (now marks) ≤ 201) × NoneBefore (now of) (now firsts) × NoneBehind (now of) (now ends) ⌝ }
     ensures { λ _. ⌜ Marked (now (of .entry)) (now (relied .entry)) (now (marks .entry)) (now (marks .exit)) c ⌝ }
 {
     if c == 0 {
@@ -99,13 +141,14 @@ fn mark<'a>(of: &'a [u32], relied: &'a [u32], marks: &mut [u8], c: usize)
     if marks[c] == 1 {
         return;
     }
-    let mut k = 0;
-    while k < of.len() {
+    let first = firsts[c];
+    let mut k = ends[c];
+    while first < k {
+        k -= 1;
         let p = named(of, relied, c, k);
         if 0 < p {
-            mark(of, relied, marks, p);
+            mark(of, relied, firsts, ends, marks, p);
         }
-        k += 1;
     }
     marks[c] = 1;
 }
@@ -114,11 +157,13 @@ fn mark<'a>(of: &'a [u32], relied: &'a [u32], marks: &mut [u8], c: usize)
 pub(crate) fn taken<'a>(of: &'a [u32], relied: &'a [u32], wanted: &[u32]) -> [u8; MARKS]
     ensures { λ r. ⌜ Taken (now (of .entry)) (now (relied .entry)) (now (wanted .entry)) r (length (now (wanted .entry))) ⌝ }
 {
+    let firsts = firsts_of(of);
+    let ends = ends_of(of);
     let mut marks = [0u8; MARKS];
     let mut i = 0;
     while i < wanted.len() {
         let c = wanted[i] as usize;
-        mark(of, relied, &mut marks, c);
+        mark(of, relied, &firsts, &ends, &mut marks, c);
         i += 1;
     }
     marks

@@ -1,11 +1,10 @@
 -- The measure is the correction's number. The invariant: what the lines so far reach is marked. Assumes nothing.
-use Rattle.selection.proofs.MarkLaws.{Round, marked-same, round-start, round-skip, round-call, round-end, named-falls}
-use mathlib.Core.Logic.{⊎-elim}
+use Rattle.selection.proofs.MarkLaws.{Round, LinesFrom, lines-from, lines-before, marked-same, round-start, round-skip, round-call, round-end, named-falls}
 use mathlib.Core.Path.{_∙_}
 use lib.ListN.{length, length-set}
-use Prim.Native.Nat.{ℕ, _<_, _≤_, _-_}
 use borrow.Author.Needs.{needs}
 use native.Mathlib.Omega.{arith}
+use Prim.Native.Nat.{ℕ, _<_, _-_}
 use borrow.Fn.Kinds.{In}
 use borrow.Fn.PlainCycle.{Measures, is, falls, and}
 use Rattle.selection.proofs.relied.mark.Reads as mark
@@ -15,20 +14,20 @@ use Rattle.selection.proofs.relied.named.Reads as named-reads
 use Rattle.selection.proofs.relied.+mark.{statement}
 use Rattle.selection.proofs.relied.+mark.Tie.{close}
 
-abbrev μ-mark : Measures 2 mark-kinds.ps ℕ
-μ-mark κs a = a .1 .1 .1 .0
+abbrev μ-mark : Measures 4 mark-kinds.ps ℕ
+μ-mark κs a = a .1 .1 .1 .1 .1 .0
 
-abbrev mark-at : ℕ → In 2 mark-kinds.ps
-mark-at t = and 2 mark-kinds.ps (is 2 mark-kinds.ps μ-mark t) mark.Pre
+abbrev mark-at : ℕ → In 4 mark-kinds.ps
+mark-at t = and 4 mark-kinds.ps (is 4 mark-kinds.ps μ-mark t) mark.Pre
 
-abbrev mark-below : ℕ → In 2 mark-kinds.ps
-mark-below t = and 2 mark-kinds.ps (falls 2 mark-kinds.ps _<_ μ-mark t) mark.Pre
+abbrev mark-below : ℕ → In 4 mark-kinds.ps
+mark-below t = and 4 mark-kinds.ps (falls 4 mark-kinds.ps _<_ μ-mark t) mark.Pre
 
 abbrev mark-Inv-loop : mark-lts.InvT-loop
-mark-Inv-loop of relied marks₀ c k₀ marks k = (k ≤ length of) × (0 < c) × (c < length marks₀) × Round of relied marks₀ marks c k
+mark-Inv-loop of relied firsts ends marks₀ c first k₀ marks k = (0 < c) × (c < length marks₀) × LinesFrom of relied c first × Round of relied marks₀ marks c k
 
 abbrev mark-μ-loop : mark-lts.MeasureT-loop
-mark-μ-loop of relied marks₀ c k₀ marks k = length of - k
+mark-μ-loop of relied firsts ends marks₀ c first k₀ marks k = k
 
 mark-returns : (t : ℕ) → mark-lts.Need-returns (
   named-reads.Asked,
@@ -62,13 +61,55 @@ mark-returns-3 : (t : ℕ) → mark-lts.Need-returns-3 (
 ) (mark-at t) mark.Post mark-Inv-loop mark-μ-loop
 mark-returns-3 t c = marked-same _ _ _ _ (λ _ _. c .if3 .taken)
 
+mark-mul-first : (t : ℕ) → mark-lts.Need-mul-first (
+  named-reads.Asked,
+  named-reads.Learnt,
+  mark-below t,
+  mark.Post,
+) (mark-at t) mark.Post mark-Inv-loop mark-μ-loop
+mark-mul-first t c = search needs
+
+mark-element-copy-out-first : (t : ℕ) → mark-lts.Need-element-copy-out-first (
+  named-reads.Asked,
+  named-reads.Learnt,
+  mark-below t,
+  mark.Post,
+) (mark-at t) mark.Post mark-Inv-loop mark-μ-loop
+mark-element-copy-out-first t c = search needs
+
+mark-mul-k : (t : ℕ) → mark-lts.Need-mul-k (
+  named-reads.Asked,
+  named-reads.Learnt,
+  mark-below t,
+  mark.Post,
+) (mark-at t) mark.Post mark-Inv-loop mark-μ-loop
+mark-mul-k t c = search needs
+
+mark-element-copy-out-k : (t : ℕ) → mark-lts.Need-element-copy-out-k (
+  named-reads.Asked,
+  named-reads.Learnt,
+  mark-below t,
+  mark.Post,
+) (mark-at t) mark.Post mark-Inv-loop mark-μ-loop
+mark-element-copy-out-k t c = search needs
+
 mark-loop-holds : (t : ℕ) → mark-lts.Need-loop-holds (
   named-reads.Asked,
   named-reads.Learnt,
   mark-below t,
   mark.Post,
 ) (mark-at t) mark.Post mark-Inv-loop mark-μ-loop
-mark-loop-holds t c = (search needs, search needs, search needs, round-start _ _ _ _)
+mark-loop-holds t c =
+    let pre = c .before .before .before .before .before .before .before .before .before .pre .1 in
+    (search needs, search needs, lines-from _ _ _ _ (pre .1) (omega (arith, pre .0)), round-start _ _ _ _ _ (lines-before _ _ _ _ (pre .2) (omega (arith, pre .0))))
+
+mark-sub-k : (t : ℕ) → mark-lts.Need-sub-k (
+  named-reads.Asked,
+  named-reads.Learnt,
+  mark-below t,
+  mark.Post,
+) (mark-at t) mark.Post mark-Inv-loop mark-μ-loop
+mark-sub-k t c = search needs
 
 mark-named-requires : (t : ℕ) → mark-lts.Need-named-requires (
   named-reads.Asked,
@@ -84,15 +125,10 @@ mark-mark-requires : (t : ℕ) → mark-lts.Need-mark-requires (
   mark-below t,
   mark.Post,
 ) (mark-at t) mark.Post mark-Inv-loop mark-μ-loop
-mark-mark-requires t c κs = (omega (arith, named-falls _ _ _ _ _ (c .before .before .named .ensures) (c .before .if4 .taken), c .before .before .before .before .before .before .before .before .before .before .before .before .pre .0), tt)
-
-mark-add-k : (t : ℕ) → mark-lts.Need-add-k (
-  named-reads.Asked,
-  named-reads.Learnt,
-  mark-below t,
-  mark.Post,
-) (mark-at t) mark.Post mark-Inv-loop mark-μ-loop
-mark-add-k t c = search needs
+mark-mark-requires t c κs =
+    let turn = c .before .before .before .before in
+    let pre = turn .before .before .before .before .before .before .before .before .before .before .pre in
+    (omega (arith, named-falls _ _ _ _ _ (c .before .before .named .ensures) (c .before .if4 .taken), pre .0), (omega (arith, pre .1 .0, turn .loop .inv .3 .spread .long), pre .1 .1, pre .1 .2))
 
 mark-loop-less : (t : ℕ) → mark-lts.Need-loop-less (
   named-reads.Asked,
@@ -109,12 +145,27 @@ mark-loop-again : (t : ℕ) → mark-lts.Need-loop-again (
   mark.Post,
 ) (mark-at t) mark.Post mark-Inv-loop mark-μ-loop
 mark-loop-again t c =
-    let l = c .before .before .before .loop in
-    let r = c .before .named in
-    ⊎-elim
-    (λ w. (search needs, l .inv .1, l .inv .2, round-call _ _ _ _ _ _ _ _ _ (l .inv .3) (r .ensures) (w .0 .taken) (l .inv .2) (w .2 .ensures) (w .5)))
-    (λ w. (search needs, l .inv .1, l .inv .2, round-skip _ _ _ _ _ _ _ _ (l .inv .3) (r .ensures) (w .0 .left) (w .1)))
-    (c .if4 .came)
+    let line = c .before .before .before .before .before in
+    let inv = line .before .before .loop .inv in
+    (inv .0, inv .1, inv .2, round-call _ _ _ _ _ _ _ _ (inv .3) (line .named .ensures) (c .before .before .before .before .if4 .taken) (inv .1) (c .before .before .mark .ensures))
+
+mark-loop-less-2 : (t : ℕ) → mark-lts.Need-loop-less-2 (
+  named-reads.Asked,
+  named-reads.Learnt,
+  mark-below t,
+  mark.Post,
+) (mark-at t) mark.Post mark-Inv-loop mark-μ-loop
+mark-loop-less-2 t c = search needs
+
+mark-loop-again-2 : (t : ℕ) → mark-lts.Need-loop-again-2 (
+  named-reads.Asked,
+  named-reads.Learnt,
+  mark-below t,
+  mark.Post,
+) (mark-at t) mark.Post mark-Inv-loop mark-μ-loop
+mark-loop-again-2 t c =
+    let inv = c .before .before .before .loop .inv in
+    (inv .0, inv .1, inv .2, round-skip _ _ _ _ _ _ _ (inv .3) (c .before .named .ensures) (c .if4 .left))
 
 mark-slice-write-marks : (t : ℕ) → mark-lts.Need-slice-write-marks (
   named-reads.Asked,
@@ -138,7 +189,9 @@ mark-returns-4 : (t : ℕ) → mark-lts.Need-returns-4 (
   mark-below t,
   mark.Post,
 ) (mark-at t) mark.Post mark-Inv-loop mark-μ-loop
-mark-returns-4 t c = round-end _ _ _ _ _ _ (c .before .loop .inv .3) (c .loop-test .left) (c .before .loop .inv .2)
+mark-returns-4 t c =
+    let inv = c .before .loop .inv in
+    round-end _ _ _ _ _ _ _ (inv .3) (inv .2) (c .loop-test .left) (inv .1)
 
 pub +mark-spec : {M : Type 1} → statement M
 +mark-spec = close μ-mark λ t. mark-lts.spec (
@@ -155,12 +208,18 @@ pub +mark-spec : {M : Type 1} → statement M
     (mark-returns-2 t)
     (mark-slice-read-if3 t)
     (mark-returns-3 t)
+    (mark-mul-first t)
+    (mark-element-copy-out-first t)
+    (mark-mul-k t)
+    (mark-element-copy-out-k t)
     (mark-loop-holds t)
+    (mark-sub-k t)
     (mark-named-requires t)
     (mark-mark-requires t)
-    (mark-add-k t)
     (mark-loop-less t)
     (mark-loop-again t)
+    (mark-loop-less-2 t)
+    (mark-loop-again-2 t)
     (mark-slice-write-marks t)
     (mark-same-length t)
     (mark-returns-4 t)
