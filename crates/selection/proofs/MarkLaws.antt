@@ -1,4 +1,4 @@
--- What marking keeps true from one line of the index to the next, and the laws of each step of it.
+-- What marking keeps true from one line of the index to the next, and the laws of each step of it and of the tables that it goes by.
 -- Assumes nothing.
 use mathlib.Core.Path.{_≡_, refl, sym, ap, subst, _∙_}
 use mathlib.Core.Bool.{Bool, true, false, cond, _&&_}
@@ -138,7 +138,8 @@ module _ (of relied a : List ℕ) (c : ℕ) where
   in-set-back b i x = ⊎-elim inl (λ (n : i ≡ c → ⊥). inr (sym (getD-set-other b c i 1 0 n) ∙ x)) (same-or-not i c)
 
   -- what d relies on is marked, where d is c or was marked before
-  after : (b : List ℕ) (k : ℕ) → Round of relied a b c k → LinesFrom of relied c k → ClosedMarks of relied a → (d p : ℕ) → (d ≡ c) ⊎ In b d → Relies of relied d p → In b p
+  after : (b : List ℕ) (k : ℕ) → Round of relied a b c k → LinesFrom of relied c k → ClosedMarks of relied a → (d p : ℕ) → (d ≡ c) ⊎ In b d
+      → Relies of relied d p → In b p
   after b k r h cl d p (inl e) rel =
       let q : p ≡ namedBy of relied c (rel .line) = rel .named ∙ ap (λ (x : ℕ). namedBy of relied x (rel .line)) e in
       let z : 0 < namedBy of relied c (rel .line) = omega (arith, rel .some) in
@@ -146,7 +147,8 @@ module _ (of relied a : List ℕ) (c : ℕ) where
   after b k r h cl d p (inr x) rel = r .spread .closed cl d p x rel
 
   -- all lines, and c itself
-  pub round-end : (b : List ℕ) (k first : ℕ) → Round of relied a b c k → LinesFrom of relied c first → k ≤ first → c < length a → Marked of relied a (set b c 1) c
+  pub round-end : (b : List ℕ) (k first : ℕ) → Round of relied a b c k → LinesFrom of relied c first → k ≤ first → c < length a
+      → Marked of relied a (set b c 1) c
   round-end b k first r h e hl =
       let t = r .spread in
       let lb : c < length b = omega (arith, t .long) in
@@ -170,24 +172,26 @@ pub record Tabled (of table : List ℕ) (Seen : ℕ → Type 0) (P : ℕ → ℕ
   pub long : length table ≡ 201
   pub row : (j : ℕ) → Seen j → getD of j 0 < 201 → P j (getD table (getD of j 0) 0)
 
-module _ (of table : List ℕ) (Seen More : ℕ → Type 0) (P : ℕ → ℕ → Type 0) (t : Tabled of table Seen P) (k : ℕ) (new : (j : ℕ) → More j → (j ≡ k) ⊎ Seen j) where
-  -- a line more, of a correction that has no mark
-  pub tabled-skip : 201 ≤ getD of k 0 → Tabled of table More P
-  tabled-skip h = record {
-    long = t .long;
-    row = λ j m l. ⊎-elim (λ (e : j ≡ k). absurd (omega (arith, ap (λ (i : ℕ). getD of i 0) e))) (λ (s : Seen j). t .row j s l) (new j m);
-  }
+-- one line more is looked at
+module _ (of table : List ℕ) (Seen More : ℕ → Type 0) (P : ℕ → ℕ → Type 0) (t : Tabled of table Seen P) (k : ℕ)
+    (new : (j : ℕ) → More j → (j ≡ k) ⊎ Seen j) where
+  old-row : (j : ℕ) → More j → getD of j 0 < 201 → (getD of j 0 ≡ getD of k 0 → ⊥) → P j (getD table (getD of j 0) 0)
+  old-row j m l n = ⊎-elim (λ (e : j ≡ k). absurd (n (ap (λ (i : ℕ). getD of i 0) e))) (λ (s : Seen j). t .row j s l) (new j m)
 
-  -- a line more, whose correction now has v
+  -- it is of a correction that has no mark; its correction now has v
+  pub tabled-skip : 201 ≤ getD of k 0 → Tabled of table More P
+  tabled-skip h = record { long = t .long; row = λ j m l. old-row j m l (λ e. omega arith) }
+
   pub tabled-next : (v : ℕ) → getD of k 0 < 201 → ((j : ℕ) → More j → P j v) → Tabled of (set table (getD of k 0) v) More P
-  tabled-next v h p = record {
-    long = length-set table (getD of k 0) v ∙ t .long;
-    row = λ j m l. ⊎-elim
-        (λ (e : getD of j 0 ≡ getD of k 0). subst (P j) (sym (ap (λ (i : ℕ). getD (set table (getD of k 0) v) i 0) e ∙ getD-set-same table (getD of k 0) v 0 (omega (arith, t .long)))) (p j m))
-        (λ (n : getD of j 0 ≡ getD of k 0 → ⊥). subst (P j) (sym (getD-set-other table (getD of k 0) (getD of j 0) v 0 n))
-        (⊎-elim (λ (e : j ≡ k). absurd (n (ap (λ (i : ℕ). getD of i 0) e))) (λ (s : Seen j). t .row j s l) (new j m)))
-        (same-or-not (getD of j 0) (getD of k 0));
-  }
+  tabled-next v h p =
+      let now : getD (set table (getD of k 0) v) (getD of k 0) 0 ≡ v = getD-set-same table (getD of k 0) v 0 (omega (arith, t .long)) in
+      record {
+        long = length-set table (getD of k 0) v ∙ t .long;
+        row = λ j m l. ⊎-elim
+            (λ (e : getD of j 0 ≡ getD of k 0). rw (e, now) (p j m))
+            (λ (n : getD of j 0 ≡ getD of k 0 → ⊥). rw (getD-set-other table (getD of k 0) (getD of j 0) v 0 n) (old-row j m l n))
+            (same-or-not (getD of j 0) (getD of k 0));
+      }
 
 module _ (of : List ℕ) where
   -- the lines from k on were looked at for where each correction begins; those before k for where it ends
@@ -205,7 +209,8 @@ module _ (of : List ℕ) where
   unfolding Firsts
   firsts-skip firsts k t z = tabled-skip of firsts _ _ _ t (k - 1) (λ j s. one-or-not j (k - 1) (λ n. (omega (arith, s .0), s .1)))
 
-  pub firsts-next : (firsts : List ℕ) (k : ℕ) → Firsts firsts k → 0 < k → getD of (k - 1) 0 < 201 → Firsts (set firsts (getD of (k - 1) 0) (k - 1)) (k - 1)
+  pub firsts-next : (firsts : List ℕ) (k : ℕ) → Firsts firsts k → 0 < k → getD of (k - 1) 0 < 201
+      → Firsts (set firsts (getD of (k - 1) 0) (k - 1)) (k - 1)
   unfolding Firsts
   firsts-next firsts k t z h = tabled-next of firsts _ _ _ t (k - 1) (λ j s. one-or-not j (k - 1) (λ n. (omega (arith, s .0), s .1))) (k - 1) h (λ j s. s .0)
 

@@ -32,6 +32,7 @@ last-line f l n key index found i zero = let e : i + 0 ≡ i = omega arith in rw
 last-line f l n key index found i (suc j) = let e : i + suc j ≡ i + 1 + j = omega arith in rw e (last-line f l n key index _ (i + 1) j)
 
 module _ (f l ats of : List ℕ) (k : ℕ) where
+  -- the record of a line
   abbrev own : ℕ → List ℕ
   own j = recordAt f l (logSource (getD ats j 0))
 
@@ -48,6 +49,7 @@ module _ (f l ats of : List ℕ) (k : ℕ) where
   unfolding Among lastBefore entriesFrom
   relied-none j a h index p q = let z : j ≡ 0 = omega arith in sym (a index p q ∙ rw z)
 
+  -- the last of the lines that are left
   module _ (j : ℕ) (a : Among j) (some : 0 < j) where
     by-last : (b : Bool) → (ltb (getD of (j - 1) 0) (getD of k 0) && equal (keyOf (own k)) (keyOf (own (j - 1)))) ≡ b
         → (index : Index) → index .at ≡ ats → index .correction ≡ of
@@ -59,22 +61,23 @@ module _ (f l ats of : List ℕ) (k : ℕ) where
         a index p q ∙ ap (λ (i : ℕ). lastBefore f l (getD of k 0) (keyOf (own k)) 0 (entriesFrom index 0 i)) e
         ∙ last-line f l (getD of k 0) (keyOf (own k)) index 0 0 (j - 1) ∙ rw (z, p, q, t)
 
-    pub compared : {same : Bool} {rec other : List ℕ} {source : ℕ} → same ≡ equal (keyOf rec) (keyOf other) → rec ≡ own k → other ≡ recordAt f l source
-        → source ≡ logSource (getD ats (j - 1) 0) → same ≡ equal (keyOf (own k)) (keyOf (own (j - 1)))
-    compared e r o s = e ∙ rw (r, o, s)
-
-    -- the line before is of an earlier correction, and on the route; it is of no earlier one; it is on another route
-    pub relied-found : {same : Bool} → getD of (j - 1) 0 < getD of k 0 → same ≡ equal (keyOf (own k)) (keyOf (own (j - 1))) → same ≡ true
-        → ReliedOn f l ats of k (getD of (j - 1) 0)
-    relied-found h e t index p q = sym (by-last true (rw (lt-ltb (getD of (j - 1) 0) (getD of k 0) h) (sym e ∙ t)) index p q)
-
+    -- it is of no earlier correction
     pub relied-later : getD of k 0 ≤ getD of (j - 1) 0 → Among (j - 1)
     unfolding Among
     relied-later h = by-last false (rw (le-ltb (getD of (j - 1) 0) (getD of k 0) h))
 
-    pub relied-other : {same : Bool} → getD of (j - 1) 0 < getD of k 0 → same ≡ equal (keyOf (own k)) (keyOf (own (j - 1))) → same ≡ false → Among (j - 1)
-    unfolding Among
-    relied-other h e t = by-last false (rw (lt-ltb (getD of (j - 1) 0) (getD of k 0) h) (sym e ∙ t))
+    -- it is of an earlier one, and its route is compared
+    module _ {same : Bool} {rec other : List ℕ} {source : ℕ} (h : getD of (j - 1) 0 < getD of k 0) (e : same ≡ equal (keyOf rec) (keyOf other)) (r : rec ≡ own k)
+        (o : other ≡ recordAt f l source) (s : source ≡ logSource (getD ats (j - 1) 0)) where
+      counts : (ltb (getD of (j - 1) 0) (getD of k 0) && equal (keyOf (own k)) (keyOf (own (j - 1)))) ≡ same
+      counts = rw (lt-ltb (getD of (j - 1) 0) (getD of k 0) h, e, r, o, s)
+
+      pub relied-found : same ≡ true → ReliedOn f l ats of k (getD of (j - 1) 0)
+      relied-found t index p q = sym (by-last true (counts ∙ t) index p q)
+
+      pub relied-other : same ≡ false → Among (j - 1)
+      unfolding Among
+      relied-other t = by-last false (counts ∙ t)
 
 -- ---- all lines, of which those from k on are left
 

@@ -3,7 +3,7 @@ use mathlib.Core.Path.{_≡_, ap, _∙_}
 use Prim.Native.Nat.{_-_, _≤_}
 use lib.ListN.{getD}
 use Rattle.routes.specs.Sources.{logSource, recordAt}
-use Rattle.selection.proofs.RelianceLaws.{Among, compared, relied-start, relied-none, relied-found, relied-later, relied-other}
+use Rattle.selection.proofs.RelianceLaws.{Among, relied-start, relied-none, relied-found, relied-later, relied-other}
 use borrow.Author.Needs.{needs}
 use native.Mathlib.Omega.{arith}
 use Rattle.selection.proofs.relied.relied_on.Statement.{statement}
@@ -72,10 +72,11 @@ same-requires c κs = search needs
 returns : tie.Need-returns Inv-loop μ-loop
 returns c =
     let other = c .before .before in
-    let turn = other .before .before .before .before .before in
+    let line = other .before .before .before in
+    let turn = line .before .before in
     let inv = turn .before .loop .inv in
-    let e = compared _ _ _ _ _ _ (inv .2) (turn .loop-test .taken) (c .before .same .ensures) (inv .1) (other .record-at2 .ensures) (other .before .log-source2 .ensures) in
-    relied-found _ _ _ _ _ _ (inv .2) (turn .loop-test .taken) (other .before .before .before .if1 .taken) e (c .if2 .taken)
+    relied-found _ _ _ _ _ _ (inv .2) (turn .loop-test .taken) (line .if1 .taken) (c .before .same .ensures) (inv .1) (other .record-at2 .ensures)
+    (other .before .log-source2 .ensures) (c .if2 .taken)
 
 loop-less : tie.Need-loop-less Inv-loop μ-loop
 loop-less c = search needs
@@ -83,10 +84,12 @@ loop-less c = search needs
 loop-again : tie.Need-loop-again Inv-loop μ-loop
 loop-again c =
     let other = c .before .before in
-    let turn = other .before .before .before .before .before in
+    let line = other .before .before .before in
+    let turn = line .before .before in
     let inv = turn .before .loop .inv in
-    let e = compared _ _ _ _ _ _ (inv .2) (turn .loop-test .taken) (c .before .same .ensures) (inv .1) (other .record-at2 .ensures) (other .before .log-source2 .ensures) in
-    (search needs, inv .1, relied-other _ _ _ _ _ _ (inv .2) (turn .loop-test .taken) (other .before .before .before .if1 .taken) e (c .if2 .left))
+    let among = relied-other _ _ _ _ _ _ (inv .2) (turn .loop-test .taken) (line .if1 .taken) (c .before .same .ensures) (inv .1) (other .record-at2 .ensures)
+    (other .before .log-source2 .ensures) (c .if2 .left) in
+    (search needs, inv .1, among)
 
 loop-less-2 : tie.Need-loop-less-2 Inv-loop μ-loop
 loop-less-2 c = search needs
