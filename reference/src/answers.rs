@@ -1,6 +1,9 @@
 //! What the four programs print of a folder: the pick, the new file, the check
 //! of the log, and why the pick is as it is.
 
+use std::path::Path;
+use std::{fs, io};
+
 use crate::file::{route, LINE};
 use crate::pick::{check_log, failing, new_file, pick, reasons, Cause, Reason, Why, IN_LOG, ROOM};
 use crate::{log, wanted, Refusal};
@@ -25,6 +28,15 @@ impl Inputs {
     pub fn of(files: [&[u8]; 3]) -> Inputs {
         let read = |file: usize| files[file][..files[file].len().min(LIMITS[file] + 1)].to_vec();
         Inputs { frozen: read(0), log: read(1), want: read(2) }
+    }
+
+    /// Writes the files into a folder, which is made where there is none.
+    pub fn write(&self, folder: &Path) -> io::Result<()> {
+        fs::create_dir_all(folder)?;
+        for (name, bytes) in NAMES.iter().zip([&self.frozen, &self.log, &self.want]) {
+            fs::write(folder.join(name), bytes)?;
+        }
+        Ok(())
     }
 }
 

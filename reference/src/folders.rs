@@ -341,7 +341,7 @@ fn lists() -> Vec<Folder> {
 }
 
 /// A list with these numbers.
-fn listed(wanted: &[u32]) -> Vec<u8> {
+pub(crate) fn listed(wanted: &[u32]) -> Vec<u8> {
     wanted.iter().flat_map(|number| format!("{number}\n").into_bytes()).collect()
 }
 

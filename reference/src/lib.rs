@@ -21,9 +21,9 @@
 //! - `picks`: the stored set of picks
 //! - `random_picks`: random ones, of routes of every kind
 //! - `pick_vectors`: how it is stored, and what this program answers to it
-//! - `times`: the inputs whose times are measured, in the same form
 //! - `answers`: what the four programs print
 //! - `folders`: the stored set of folders and the examples, and what this program answers to them
+//! - `times`: the folders on which the cost of a pick is measured
 //! - `random_folders`: folders without end, from a seed
 //! - `compare`: those, held to what another program answers to them
 

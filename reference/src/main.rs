@@ -1,7 +1,7 @@
 //! Writes the stored sets of columns, of records, of terminators, of files, of
 //! logs, of picks and of folders, and the answers to them and to the examples. Or one of these:
 //!
-//! - `times FOLDER`: the inputs whose times are measured, into a folder
+//! - `times FOLDER`: the folders on which the cost of a pick is measured, and what `pick` is to print of each
 //! - `folders PLACE`: the stored folders as folders, and what the programs are to print of each
 //! - `print pick`, `print newfile`, `print check`, `print why`: what that program is to print of the folder that this one runs in
 //! - `answers`: what this program answers to `folders.bin` in the folder that it runs in, as `vectors_answers` prints it
@@ -39,7 +39,9 @@ fn run() -> io::Result<()> {
             let differing = compare::run(number(seed)?, number(cases)?, program)?;
             process::exit(if differing == 0 { 0 } else { 1 })
         }
-        ["random", seed, case, folder] => write_random(number(seed)?, number(case)?, Path::new(folder)),
+        ["random", seed, case, folder] => {
+            random_folders::random(number(seed)?, number(case)?).write(Path::new(folder))
+        }
         _ => Err(wrong(USAGE)),
     }
 }
@@ -74,13 +76,4 @@ fn answer_folders() -> io::Result<()> {
     let stored = folders::unpacked(&fs::read("folders.bin")?);
     let answers = (1..).zip(&stored).flat_map(|(number, inputs)| folders::answer(number, inputs));
     io::stdout().write_all(&answers.collect::<Vec<u8>>())
-}
-
-fn write_random(seed: u64, case: u64, folder: &Path) -> io::Result<()> {
-    let answers::Inputs { frozen, log, want } = random_folders::random(seed, case);
-    fs::create_dir_all(folder)?;
-    for (name, bytes) in answers::NAMES.iter().zip([frozen, log, want]) {
-        fs::write(folder.join(name), bytes)?;
-    }
-    Ok(())
 }

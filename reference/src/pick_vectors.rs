@@ -134,7 +134,7 @@ fn shown(numbers: impl IntoIterator<Item = usize>) -> String {
 /// explaining the pick says, with the reasons; what making the new file says;
 /// check sums of the answers by value and of the lent buffer; and the length and
 /// the check sum of some lines of the new file.
-pub(crate) fn answer(number: usize, case: &Case) -> String {
+fn answer(number: usize, case: &Case) -> String {
     let Case { frozen, log, wanted, room } = case;
     let checked = check_log(frozen, log);
     let wrong = Wrong::of(frozen, log);
@@ -208,7 +208,7 @@ fn with_number(op: u8, number: usize) -> [u8; 3] {
 }
 
 /// The records, and what makes the cases out of them.
-pub(crate) fn instructions(set: &[Case]) -> (Vec<u8>, Vec<u8>) {
+fn instructions(set: &[Case]) -> (Vec<u8>, Vec<u8>) {
     let mut records = Records::default();
     let mut made: Vec<[u8; 3]> = Vec::new();
     let (mut frozen, mut log): (&[u8], &[u8]) = (&[], &[]);

@@ -802,7 +802,7 @@ fn renewals(frozen: &[Record], times: usize, corrections: usize) -> Case {
     case(&file(frozen), &log(&renewals), &numbers(corrections))
 }
 
-/// The inputs whose times are measured: two of the largest, a half and a quarter
+/// The inputs whose cost is measured: two of the largest, a half and a quarter
 /// of each, in routes of 30 legs and in one route.
 pub fn timed() -> Vec<(String, Case)> {
     let mut inputs = Vec::new();

@@ -1,15 +1,12 @@
-//! The inputs of picking whose times are measured, each many times over, in the
-//! form in which the set of picks is stored.
+//! The inputs of picking whose cost is measured, as folders.
 
 use std::path::Path;
 use std::{fs, io};
 
+use crate::answers::{pick_answer, Inputs};
 use crate::file::LINE;
-use crate::pick_vectors::{answer, instructions};
+use crate::folders::listed;
 use crate::picks::{timed, Case};
-
-/// How often each input is there.
-pub const REPEATS: usize = 2;
 
 /// How much of everything there is in a case.
 #[derive(Clone, Copy, Debug, PartialEq, Eq)]
@@ -33,27 +30,22 @@ pub fn sizes(case: &Case) -> Sizes {
     }
 }
 
-/// Writes the inputs into a folder: `inputs`, which has the number, the name, the
-/// sizes and the repeats of each, and for each a folder by its number with the
-/// records, the cases and, in `stdout`, the answers.
+/// What the programs read of a case: all of it.
+pub fn inputs(case: &Case) -> Inputs {
+    Inputs { frozen: case.frozen.clone(), log: case.log.clone(), want: listed(&case.wanted) }
+}
+
+/// Writes the inputs into a folder: `inputs`, which has the number, the name and
+/// the sizes of each, and for each a folder by its number with its files and, in
+/// `expected`, what `pick` is to print.
 pub fn write(folder: &Path) -> io::Result<()> {
     let mut list = String::new();
     for (number, (name, case)) in (1_usize..).zip(timed()) {
         let Sizes { frozen, outs, puts, corrections, wanted } = sizes(&case);
-        list += &format!("{number}\t{name}\t{frozen}\t{outs}\t{puts}\t{corrections}\t{wanted}\t{REPEATS}\n");
-        write_repeated(&folder.join(number.to_string()), &case)?;
+        list += &format!("{number}\t{name}\t{frozen}\t{outs}\t{puts}\t{corrections}\t{wanted}\n");
+        let (own, inputs) = (folder.join(number.to_string()), inputs(&case));
+        inputs.write(&own)?;
+        fs::write(own.join("expected"), pick_answer(&inputs))?;
     }
     fs::write(folder.join("inputs"), list)
-}
-
-fn write_repeated(folder: &Path, case: &Case) -> io::Result<()> {
-    let (records, instructions) = instructions(&vec![case.clone(); REPEATS]);
-    // The answers differ in the number of the case alone.
-    let first = answer(1, case);
-    let rest = first.strip_prefix("case\t1\t").expect("an answer begins with its number");
-    let answers: String = (1..=REPEATS).map(|number| format!("case\t{number}\t{rest}")).collect();
-    fs::create_dir_all(folder)?;
-    fs::write(folder.join("records.bin"), records)?;
-    fs::write(folder.join("cases.bin"), instructions)?;
-    fs::write(folder.join("stdout"), answers)
 }

@@ -1,8 +1,10 @@
-//! The inputs whose times are measured are legal, are accepted, and have the sizes that are said.
+//! The inputs whose cost is measured are legal, are accepted, and have the sizes that are said.
 
+use reference::answers::Inputs;
 use reference::pick::{check_log, new_file, pick};
 use reference::picks::timed;
-use reference::times::{sizes, Sizes, REPEATS};
+use reference::times::{inputs, sizes, Sizes};
+use reference::wanted::numbers;
 
 /// Frozen records, D lines, A lines and corrections, by kind and part.
 const SAID: [(&str, [usize; 4]); 6] = [
@@ -16,14 +18,14 @@ const SAID: [(&str, [usize; 4]); 6] = [
 
 #[test]
 fn they_are_accepted_and_have_their_sizes() {
-    let inputs = timed();
-    let names: Vec<&str> = inputs.iter().map(|(name, _)| name.as_str()).collect();
+    let timed = timed();
+    let names: Vec<&str> = timed.iter().map(|(name, _)| name.as_str()).collect();
     let said = |routes: &str| {
         let name = |(name, _): &(&str, [usize; 4])| name.replace(", ", &format!(", {routes}, "));
         SAID.iter().map(name).collect::<Vec<String>>()
     };
     assert_eq!(names, [said("routes of 30"), said("one route")].concat());
-    for ((name, case), (_, [frozen, outs, puts, corrections])) in inputs.iter().zip(SAID.iter().cycle()) {
+    for ((name, case), (_, [frozen, outs, puts, corrections])) in timed.iter().zip(SAID.iter().cycle()) {
         let (frozen, outs, puts, corrections) = (*frozen, *outs, *puts, *corrections);
         assert_eq!(sizes(case), Sizes { frozen, outs, puts, corrections, wanted: corrections }, "{name}");
         assert_eq!(check_log(&case.frozen, &case.log), Ok(()), "{name}");
@@ -35,12 +37,10 @@ fn they_are_accepted_and_have_their_sizes() {
 }
 
 #[test]
-fn the_repeats_are_within_what_the_program_reads() {
-    // A case from nothing and the same again, in instructions of three bytes.
+fn the_programs_read_all_of_them() {
     for (name, case) in timed() {
-        let Sizes { frozen, outs, puts, corrections, wanted } = sizes(&case);
-        let first = frozen + outs + puts + corrections + wanted + 2;
-        let bytes = 3 * (first + (REPEATS - 1) * (wanted + 4));
-        assert!(bytes <= 200_000, "{name}: {bytes} bytes");
+        let whole = inputs(&case);
+        assert_eq!(Inputs::of([&case.frozen, &case.log, &whole.want]), whole, "{name}");
+        assert_eq!(numbers(&whole.want), case.wanted, "{name}");
     }
 }
