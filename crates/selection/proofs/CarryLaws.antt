@@ -1,7 +1,7 @@
 -- Laws of the steps of a pick: what was opened, the whole log, the corrections taken alone; a law for each way that a step ends.
 -- Assumes nothing.
 use mathlib.Core.Path.{_≡_, refl, sym, ap, ap₂, subst, _∙_}
-use mathlib.Core.Bool.{Bool, true, cond}
+use mathlib.Core.Bool.{Bool, true, false, cond}
 use mathlib.Core.List.{List, [], _∷_, _++_}
 use Prim.Native.Nat.{ℕ, zero, suc, _+_, _-_, _≤_, _<_}
 use native.Mathlib.Omega.{arith}
@@ -24,12 +24,13 @@ use Rattle.corrections.specs.declared.Index.{Index}
 use Rattle.corrections.proofs.FrontLaws.{not-said}
 use Rattle.corrections.proofs.Legality.{verdict-said}
 use Rattle.applying.specs.Apply.{Within, entriesFrom}
-use Rattle.applying.specs.Bounds.{ranOver, ranAs}
+use Rattle.applying.specs.Bounds.{ranOver, ranOverBy, ranAs}
 use Rattle.applying.specs.Correct.{Wrong, noMore, Outcome, stopped, reached, corrected}
-use Rattle.applying.specs.Run.{byCorrection, onward, ran, marked}
+use Rattle.applying.specs.Run.{byCorrection, onward, ran, ranBy, marked}
 use Rattle.selection.specs.Reliance.{reliances, Taken}
 use Rattle.selection.specs.Pick.{
   Reads,
+  Opens,
   lengthStage,
   ifAccepted,
   opened,
@@ -59,6 +60,7 @@ use Rattle.selection.specs.declared.Picked.{Picked}
 use Rattle.selection.specs.declared.carry.Members.{Members}
 use Rattle.applying.specs.declared.Ran.{Ran}
 use Rattle.applying.proofs.BoundLaws.{ran-bound}
+use Rattle.applying.proofs.RunLaws.{unjudged}
 use Rattle.selection.proofs.GroupLaws.{read-by-correction}
 use Rattle.selection.proofs.IndexLaws.{first-lines, read-sound}
 use Rattle.selection.proofs.TakenLaws.{taken-closure}
@@ -123,6 +125,9 @@ module _ (f l : List ℕ) (index : Index) (e : index ≡ indexOf (opened f l)) w
     unfolding was-said opened-reads
     opened-said = was-said .2 ∙ ap₂ said (sym (corrections-of l index opened-reads)) (sym (lines-of l index opened-reads))
 
+    pub opened-with : Opens f l index
+    opened-with = (opened-reads, opened-said)
+
     pub pick-opened : (w : List ℕ) {p : Picked} → p ≡ pickedAs (pickFrom f l w (said (index .corrections) (entriesFrom index 0 (index .count)))) → p ≡ pickedAs (pickOf f l w)
     unfolding pickOf
     pick-opened w q = q ∙ ap (λ (o : Reading). pickedAs (pickFrom f l w o)) (sym opened-said)
@@ -159,7 +164,7 @@ by-length n zero es = refl
 by-length n (suc m) es = ap suc (by-length (n + 1) m _)
 
 ran-same : (f l : List ℕ) (S T : Numbers) (n : ℕ) (ess : List (List Entry)) (xs : List ℕ) → ((i : ℕ) → i < length ess → S (n + i) ≡ T (n + i)) → ran f l S n ess xs ≡ ran f l T n ess xs
-unfolding ran
+unfolding ranBy
 ran-same f l S T n [] xs h = refl
 ran-same f l S T n (es ∷ ess) xs h =
     let z : n + 0 ≡ n = omega arith in
@@ -185,7 +190,7 @@ members-same S T n (suc m) h =
     subst (λ (j : ℕ). S j ≡ T j) q (h (suc i) (omega arith))))
 
 module _ (f l : List ℕ) (S T : Numbers) (n : ℕ) (es : List Entry) (h : (i : ℕ) → i < n → S (1 + i) ≡ T (1 + i)) where
-  carried-same : carried f l S n es ≡ carried f l T n es
+  pub carried-same : carried f l S n es ≡ carried f l T n es
   unfolding carried
   carried-same = ran-same f l S T 1 (byCorrection 1 n es) (inUse (sourcesOf f)) (λ i k. h i (omega (arith, by-length 1 n es)))
 
@@ -203,7 +208,7 @@ module _ (f l : List ℕ) (T : Numbers) (index : Index) (r : Reads l index) {s :
   pub run-carried : x ≡ ranAs (carried f l T (index .corrections) (entriesFrom index 0 (index .count)))
   unfolding carried
   run-carried =
-      g ∙ ap ranAs (ran-bound f l T index s (record { records = own-count f e .1; lines = index-few l index r; within = index-within l index r })
+      g ∙ ap ranAs (ran-bound true f l T index s (record { records = own-count f e .1; lines = index-few l index r; within = index-within l index r })
       ∙ ap (λ (t : Sources). ran f l T 1 (byCorrection 1 (index .corrections) (entriesFrom index 0 (index .count))) (inUse t)) e)
 
 ran-verdict : (o : Outcome) → ranAs o .verdict ≡ outcomeVerdict o
@@ -232,44 +237,23 @@ whole-failing f l index r e x g n =
 
 -- ---- the marked corrections alone
 
--- a pick from what was run
-abbrev pub fromRan : List ℕ → Outcome → Picked
-fromRan ns o = pickedAs (ranFirst o (picked ns))
+-- Where they are not refused, a run that judges nothing comes to what they come to.
+module _ (f l : List ℕ) (T : Numbers) (index : Index) (r : Reads l index) {s : Sources} (e : s ≡ sourcesOf f) (x : Ran) (g : x ≡ ranAs (ranOverBy false f l T index s))
+    (xs : List ℕ) (k : carried f l T (index .corrections) (entriesFrom index 0 (index .count)) ≡ reached xs) where
+  left : x ≡ ranAs (reached xs)
+  unfolding carried
+  left =
+      g ∙ ap ranAs (ran-bound false f l T index s (record { records = own-count f e .1; lines = index-few l index r; within = index-within l index r })
+      ∙ ap (λ (t : Sources). ranBy false f l T 1 (byCorrection 1 (index .corrections) (entriesFrom index 0 (index .count))) (inUse t)) e
+      ∙ unjudged f l T 1 (byCorrection 1 (index .corrections) (entriesFrom index 0 (index .count))) (inUse (sourcesOf f)) xs k)
 
-ran-refused : (ns : List ℕ) (o : Outcome) {q : Refusal} → ranAs o .verdict ≡ Refused q → fromRan ns o ≡ pickedAs (refusedBy q)
-unfolding ranAs
-ran-refused ns (stopped q w) e = ap (λ (y : Refusal). pickedAs (refusedBy y)) (same-refusal e)
-ran-refused ns (reached xs) e = absurd (never (sym e))
-
-ran-picked : (ns : List ℕ) (o : Outcome) → ranAs o .verdict ≡ Accepted
-    → record { verdict = Accepted; count = length ns; taken = padded 200 ns; records = ranAs o .records } ≡ fromRan ns o
-unfolding ranAs pickedAs
-ran-picked ns (stopped q w) e = absurd (never e)
-ran-picked ns (reached xs) e = refl
-
-module _ (f l : List ℕ) (T : Numbers) (index : Index) (r : Reads l index) {s : Sources} (e : s ≡ sourcesOf f) (x : Ran) (g : x ≡ ranAs (ranOver f l T index s)) where
-  ns : List ℕ
-  ns = membersFrom T 1 (index .corrections)
-
-  here : Outcome
-  here = carried f l T (index .corrections) (entriesFrom index 0 (index .count))
-
-  was : x ≡ ranAs here
-  unfolding here
-  was = run-carried f l T index r e x g
-
-  pub carry-refused : {q : Refusal} {p : Picked} → x .verdict ≡ Refused q → p ≡ pickedAs (refusedBy q)
-      → p ≡ pickedAs (ranFirst (carried f l T (index .corrections) (entriesFrom index 0 (index .count))) (picked (membersFrom T 1 (index .corrections))))
-  unfolding here ns
-  carry-refused v q = q ∙ sym (ran-refused ns here (sym (ap (λ (y : Ran). y .verdict) was) ∙ v))
-
-  pub carry-stands : {m : Members} → x .verdict ≡ Accepted → m ≡ membersAs (membersFrom T 1 (index .corrections))
+  pub carry-stands : {m : Members} → m ≡ membersAs (membersFrom T 1 (index .corrections))
       → record { verdict = Accepted; count = m .count; taken = m .at; records = x .records }
       ≡ pickedAs (ranFirst (carried f l T (index .corrections) (entriesFrom index 0 (index .count))) (picked (membersFrom T 1 (index .corrections))))
-  unfolding membersAs here ns
-  carry-stands v a =
-      ap₂ (λ (y : Members) (z : Sources). record { verdict = Accepted; count = y .count; taken = y .at; records = z }) a (ap (λ (y : Ran). y .records) was)
-      ∙ ran-picked ns here (sym (ap (λ (y : Ran). y .verdict) was) ∙ v)
+  unfolding membersAs pickedAs ranAs
+  carry-stands a =
+      ap₂ (λ (y : Members) (z : Sources). record { verdict = Accepted; count = y .count; taken = y .at; records = z }) a (ap (λ (y : Ran). y .records) left)
+      ∙ ap (λ (o : Outcome). pickedAs (ranFirst o (picked (membersFrom T 1 (index .corrections))))) (sym k)
 
 -- ---- what is settled once a file and a log are open
 
@@ -311,6 +295,16 @@ module _ (f l ws : List ℕ) (n : ℕ) (es : List Entry) {x : Failure} (s : x �
           → pickBy f l (takenOf f l n es ws) n es ≡ judgedFirst v (ranFirst o (λ _. pickBy f l (takenOf f l n es ws) n es))
       by Accepted (stopped q w) h = absurd (never h)
       by Accepted (reached xs) h = refl
+      by (Refused q) o h = absurd (never h)
+
+  -- and the whole log has run
+  pub all-run : x .verdict ≡ Accepted → (ys : List ℕ) × (carried f l everything n es ≡ reached ys)
+  unfolding settled
+  all-run e = by (wantedStage n 1 ws) (carried f l everything n es) (said-verdict ∙ e)
+    where
+      by : (v : Verdict) (o : Outcome) → outcomeVerdict (judgedThen v o) ≡ Accepted → (ys : List ℕ) × (o ≡ reached ys)
+      by Accepted (stopped q w) h = absurd (never h)
+      by Accepted (reached xs) h = (xs, refl)
       by (Refused q) o h = absurd (never h)
 
   pub no-reason : {r : Refusal} → x .verdict ≡ Refused r → [] ≡ reasonsFrom f l ws (said n es)

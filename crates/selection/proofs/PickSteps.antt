@@ -23,6 +23,13 @@ use Rattle.selection.specs.Pick.{opened, wantedStage, everything, wants,
 use Rattle.selection.specs.Pick.{outcomeVerdict, carried, takenOf, logJudged, logVerdict, pickFrom, pickOf}
 use Rattle.applying.specs.Procedures.{procedures, logOf}
 use Rattle.applying.proofs.Bridge.{filed}
+use Rattle.applying.specs.Apply.{linesOf}
+use Rattle.applying.specs.Run.{marked}
+use Rattle.corrections.specs.declared.Index.{Index}
+use Rattle.selection.specs.Pick.{Opens, Carries}
+use Rattle.selection.specs.Reasons.{Chooses}
+use Rattle.selection.specs.declared.choosing.Chosen.{Chosen}
+use Rattle.selection.proofs.CarryLaws.{carried-same, all-run}
 use Rattle.selection.proofs.OpenedLaws.{Opening, frozen-accepted, legal-opened, legal-opening, said-opening, carried-records, choose-everything}
 
 -- ---- outcomes
@@ -146,14 +153,29 @@ module _ (frozen log ws : List ℕ) where
         carried-records frozen log (w .opening) (takenOf frozen log n es ws)
         ∙ ap (λ (T : Numbers). run procedures (records frozen) (choose procedures T (logOf (w .opening .legal)))) taken-set ∙ theory .runs
 
+    -- They are not refused.
+    pub taken-stands : (xs : List ℕ) × (carried frozen log (takenOf frozen log n es ws) n es ≡ reached xs)
+    taken-stands = let (xs, e, _) = outcome-some frozen log (carried frozen log (takenOf frozen log n es ws) n es) taken-runs in (xs, e)
+
     -- So where the wanted numbers pass, there is a pick.
     pub whole-picks : opened frozen log ≡ said n es → wantedStage n 1 ws ≡ Accepted
         → (taken : List ℕ) × (sources : List ℕ) × (pickOf frozen log ws ≡ picked taken sources)
     unfolding pickOf
     whole-picks q v =
-        let (xs, a, _) = outcome-some frozen log (carried frozen log (takenOf frozen log n es ws) n es) taken-runs in
+        let (xs, a) = taken-stands in
         (membersFrom (takenOf frozen log n es ws) 1 n, xs, come xs a)
       where
         come : (xs : List ℕ) → carried frozen log (takenOf frozen log n es ws) n es ≡ reached xs
             → pickFrom frozen log ws (opened frozen log) ≡ picked (membersFrom (takenOf frozen log n es ws) 1 n) xs
         come xs a = rw (q, v, w .all, a)
+
+-- ---- as the code asks for it
+
+-- What is marked of an accepted log is taken, and so not refused.
+pub chosen-carries : (f l ws : List ℕ) (index : Index) (c : Chosen) → Opens f l index → Chooses f l index ws c → c .failure .verdict ≡ Accepted → Carries f l (c .marks) index
+chosen-carries f l ws index c o h v =
+    let n = index .corrections in
+    let es = linesOf index in
+    let whole = all-run f l ws n es (h .settles) v in
+    let (xs, e) = taken-stands f l ws (record { opening = said-opening f l n es (o .1); last = whole .0; all = whole .1 }) in
+    (xs, carried-same f l (marked (c .marks)) (takenOf f l n es ws) n es (h .takes v) ∙ e)

@@ -21,7 +21,8 @@ use Rattle.routes.specs.Legal.{lines}
 use Rattle.routes.specs.Sources.{recordAt, records, sourcesOf, inUse, sourcesFor}
 use Rattle.routes.specs.declared.Sources.{Sources}
 use Rattle.applying.specs.Correct.{noMore, Outcome, stopped, reached}
-use Rattle.applying.specs.Run.{byCorrection, ran}
+use Rattle.applying.specs.Apply.{linesOf}
+use Rattle.applying.specs.Run.{byCorrection, ran, marked}
 use Rattle.applying.specs.Procedures.{procedures, operations}
 use Rattle.selection.specs.declared.Picked.{Picked}
 use Rattle.selection.specs.declared.carry.Members.{Members}
@@ -154,6 +155,16 @@ module _ (frozen log : List ℕ) where
   -- the pick where so many bytes are lent for the file: 14 first
   unfoldable pub filePick : (lent : ℕ) → (wanted : List ℕ) → Pick
   filePick lent ws = cond (ltb lent 63840) (refusedBy bufferTooShort) (pickOf ws)
+
+-- ---- as the code has it
+
+-- the index is that of a frozen file and a log which were opened
+abbrev pub Opens : (frozen log : List ℕ) → Index → Type 0
+Opens frozen log index = Reads log index × (opened frozen log ≡ said (index .corrections) (linesOf index))
+
+-- the marked corrections are not refused
+abbrev pub Carries : (frozen log marks : List ℕ) → Index → Type 0
+Carries frozen log marks index = (xs : List ℕ) × (carried frozen log (marked marks) (index .corrections) (linesOf index) ≡ reached xs)
 
 -- ---- as the code gives it: zeros past the counts, and nothing but zeros on a refusal
 

@@ -1,5 +1,5 @@
 // What the corrections taken make of the frozen records. Assumes of its callers, all in this crate, that the index is that of a log which was
-// read.
+// read, or opened with its frozen file; `carry` that what is marked is not refused, which is so of what is taken from an accepted log.
 ghost use mathlib.Core.Path.{_≡_};
 ghost use mathlib.Core.Bool.{cond};
 ghost use mathlib.Core.List.{[], _∷_};
@@ -8,6 +8,8 @@ ghost use Rattle.applying.specs.Apply.{linesOf};
 ghost use Rattle.applying.specs.Run.{marked};
 ghost use Rattle.selection.specs.Pick.{
   Reads,
+  Opens,
+  Carries,
   membersFrom,
   withMembers,
   membersAs,
@@ -84,22 +86,15 @@ pub(crate) fn members_of(marks: &[u8], total: usize) -> Members
     found
 }
 
-// What the marked corrections make of the frozen records.
+// What the marked corrections make of the frozen records, where it is known that none of them is refused. So their lines are applied, and no
+// route is judged again.
 fn carry<'a>(frozen: &'a [u8], log: &'a [u8], index: Index, marks: &[u8]) -> Picked
-    requires { ⌜ Reads (now log) index ⌝ }
+    requires { ⌜ Reads (now log) index × Carries (now frozen) (now log) (now marks) index ⌝ }
     ensures { λ r. ⌜ r ≡ pickedAs (pickBy (now (frozen .entry)) (now (log .entry)) (marked (now (marks .entry))) (index .corrections) (linesOf index)) ⌝ }
 {
     let state = sources_of(frozen);
     let new = run_unjudged(frozen, log, index, marks, state);
-    let verdict = new.verdict;
-    match verdict {
-        Verdict::Accepted => {}
-        Verdict::Refused(r) => {
-            return refused_pick(r);
-        }
-    }
-    let total = index.corrections;
-    let members = members_of(marks, total);
+    let members = members_of(marks, index.corrections);
     let records = new.records;
     let numbers = members.at;
     Picked {
@@ -112,7 +107,7 @@ fn carry<'a>(frozen: &'a [u8], log: &'a [u8], index: Index, marks: &[u8]) -> Pic
 
 // The pick once a file and a log are open: 12, then the whole log; then the wanted corrections and those that they rely on, alone.
 pub(crate) fn pick_from<'a>(frozen: &'a [u8], log: &'a [u8], index: Index, wanted: &[u32]) -> Picked
-    requires { ⌜ Reads (now log) index ⌝ }
+    requires { ⌜ Opens (now frozen) (now log) index ⌝ }
     ensures { λ r. ⌜ r ≡ pickedAs (pickFrom (now (frozen .entry)) (now (log .entry)) (now (wanted .entry)) (said (index .corrections) (linesOf index))) ⌝ }
 {
     let chosen = choose(frozen, log, index, wanted);

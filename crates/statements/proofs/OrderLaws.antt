@@ -41,8 +41,8 @@ use Rattle.routes.proofs.InTurnLaws as turns
 use Rattle.routes.proofs.FirstLaws.{first-iff, file-refuses}
 use Rattle.corrections.specs.Reading.{Entry, Reading, refused, said, readLog}
 use Rattle.applying.specs.Apply.{linesApplied, failsAt, touchedJudged, refusedRoute}
-use Rattle.applying.specs.Correct.{Outcome, stopped, reached, corrected, afterLines, afterJudging}
-use Rattle.applying.specs.Run.{byCorrection, ran, onward}
+use Rattle.applying.specs.Correct.{Outcome, stopped, reached, corrected, correctedBy, afterLines, afterJudging}
+use Rattle.applying.specs.Run.{byCorrection, ran, ranBy, onward}
 use Rattle.selection.specs.Pick.{lengthStage, ifAccepted, opened, wantedStage, everything, Pick, refusedBy, picked, judgedFirst, ranFirst, outcomeVerdict, carried, takenOf, membersFrom, logJudged, logVerdict, pickFrom, pickOf, filePick}
 use Rattle.selection.proofs.OpenedLaws.{said-opening}
 use Rattle.selection.proofs.PickSteps.{Whole, whole-picks}
@@ -333,7 +333,7 @@ module _ (frozen log : List ℕ) where
       → ((ys : List ℕ) → allRun (n + 1) ess ys ≡ Refused r → FirstCorrection frozen log (n + 1) ess ys r)
       → outcomeVerdict (onward (corrected frozen log n es xs) (ran frozen log everything (n + 1) ess)) ≡ Refused r
       → FirstCorrection frozen log n (es ∷ ess) xs r
-  unfolding allRun corrected
+  unfolding allRun correctedBy
   one-to n es ess xs r rest = applied (linesApplied frozen log es xs) refl
     where
       routes : (ys : List ℕ) → linesApplied frozen log es xs ≡ some ys → (v : Verdict) → touchedJudged frozen log es 0 ys ≡ v
@@ -349,12 +349,12 @@ module _ (frozen log : List ℕ) where
       applied (some ys) q h = routes ys q (touchedJudged frozen log es 0 ys) refl h
 
   run-to : (n : ℕ) (ess : List (List Entry)) (xs : List ℕ) (r : Refusal) → allRun n ess xs ≡ Refused r → FirstCorrection frozen log n ess xs r
-  unfolding allRun ran
+  unfolding allRun ranBy
   run-to n [] xs r e = absurd (never (sym e))
   run-to n (es ∷ ess) xs r e = one-to n es ess xs r (λ ys h. run-to (n + 1) ess ys r h) e
 
   run-from : {n : ℕ} {ess : List (List Entry)} {xs : List ℕ} {r : Refusal} → FirstCorrection frozen log n ess xs r → allRun n ess xs ≡ Refused r
-  unfolding allRun ran corrected
+  unfolding allRun ranBy correctedBy
   run-from (unapplied q) = rw q
   run-from (route q t) = rw (q, t)
   run-from (behind q t f) = rw (q, t) (run-from f)

@@ -37,8 +37,8 @@ use Rattle.history.specs.Sets.{add, numbered, lastOn, addRelied, closureTo}
 use Rattle.history.specs.Bytes.{same?}
 use Rattle.applying.specs.State.{withSource, withoutRecord, countBefore, notBefore, hasPlace, isRecord, putAt, leftOut}
 use Rattle.applying.specs.Apply.{linesApplied, lineApplied, failsAt, touched, together, touchedJudged, refusedRoute}
-use Rattle.applying.specs.Correct.{corrected, faultAs}
-use Rattle.applying.specs.Run.{leadingLines, byCorrection, ran}
+use Rattle.applying.specs.Correct.{corrected, correctedBy, faultAs}
+use Rattle.applying.specs.Run.{leadingLines, byCorrection, ran, ranBy}
 use Rattle.applying.specs.Procedures.{operation, operations}
 use Rattle.selection.specs.Pick.{lengthStage, opened, wantedStage, wants, membersFrom, carried, takenOf, pickOf, lineIn}
 use Rattle.selection.specs.Failing.{lineFeeds, lineAt, failureAs, failureOf, settled}
@@ -47,5 +47,5 @@ use Rattle.statements.specs.Starred.{Meets, starred, leg, departure, onl
 
 -- Every row is met. The definitions that the rows come down to are opened, so that they compute.
 pub cases : Every Meets starred
-unfolding starred full notes approach _at_is_ codes leg departure only frozen line replaced log unended doubled lines readingOf legReading continuationReading refusedReading alone sizeColumn legOf altitudeOf distanceOf feetOf isHolding value judged judgedLeg stage companionColumn oddOne neededColumn neededOf missing blank member part terminatorOf terminatorAt inOrder terminatorNumber nameOf among endsAtFix needed needs firstAt equal order badByte run longest layoutOf kindOf firstOf matches stands fitsAll fits primary continuation fileVerdict sizeStage tailStage tailColumn inTurn leading records pieces behindRecords walked walkFrom finished last judgedNext primaryAfter continuationStage continuationColumn awaits orderStage sequenceStage legStage legStands endingStage followed endsRoute firstLeg lastLeg mayBegin mayEnd kindNumber kindAt ofKind routeKinds named pair readable mark page oldPair onlyFirst followsFix bind pickOf opened lengthStage readLog read lineOf whole reach heading change digitsBy decimal wantedStage carried takenOf wants membersFrom leadingLines byCorrection ran corrected linesApplied lineApplied touched together touchedJudged failsAt refusedRoute faultAs lineFeeds lineAt failureAs failureOf settled firstRelying reasonOf reasonsBy reasonsOf lineIn withSource withoutRecord countBefore notBefore hasPlace isRecord putAt leftOut recordAt recordWithin inUse sourcesOf sourcesFor sourcesTo starts placeOf operation operations closureTo addRelied lastOn numbered add touches? routeOfOp same? ℕ-discrete
+unfolding starred full notes approach _at_is_ codes leg departure only frozen line replaced log unended doubled lines readingOf legReading continuationReading refusedReading alone sizeColumn legOf altitudeOf distanceOf feetOf isHolding value judged judgedLeg stage companionColumn oddOne neededColumn neededOf missing blank member part terminatorOf terminatorAt inOrder terminatorNumber nameOf among endsAtFix needed needs firstAt equal order badByte run longest layoutOf kindOf firstOf matches stands fitsAll fits primary continuation fileVerdict sizeStage tailStage tailColumn inTurn leading records pieces behindRecords walked walkFrom finished last judgedNext primaryAfter continuationStage continuationColumn awaits orderStage sequenceStage legStage legStands endingStage followed endsRoute firstLeg lastLeg mayBegin mayEnd kindNumber kindAt ofKind routeKinds named pair readable mark page oldPair onlyFirst followsFix bind pickOf opened lengthStage readLog read lineOf whole reach heading change digitsBy decimal wantedStage carried takenOf wants membersFrom leadingLines byCorrection ranBy correctedBy linesApplied lineApplied touched together touchedJudged failsAt refusedRoute faultAs lineFeeds lineAt failureAs failureOf settled firstRelying reasonOf reasonsBy reasonsOf lineIn withSource withoutRecord countBefore notBefore hasPlace isRecord putAt leftOut recordAt recordWithin inUse sourcesOf sourcesFor sourcesTo starts placeOf operation operations closureTo addRelied lastOn numbered add touches? routeOfOp same? ℕ-discrete
 cases = (refl, (refl, (refl, (refl, (refl, (refl, (refl, (refl, (refl, (refl, (refl, (refl, (refl, (refl, (refl, (refl, (refl, (refl, (refl, (refl, (refl, (refl, (refl, (refl, (refl, (refl, (refl, (refl, (refl, (refl, (refl, ((refl, refl), (refl, tt)))))))))))))))))))))))))))))))))

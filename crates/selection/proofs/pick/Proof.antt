@@ -1,5 +1,5 @@
 -- Opened or not. Assumes nothing.
-use Rattle.selection.proofs.CarryLaws.{opened-reads, pick-opened, pick-not-opened}
+use Rattle.selection.proofs.CarryLaws.{opened-with, pick-opened, pick-not-opened}
 use borrow.Author.Needs.{needs}
 use Rattle.selection.proofs.pick.Statement.{statement}
 use Rattle.selection.proofs.pick.Tie as tie
@@ -11,7 +11,7 @@ enum-told : tie.Need-enum-told
 enum-told c = search needs
 
 pick-from-requires : tie.Need-pick-from-requires
-pick-from-requires c κs = opened-reads _ _ _ (c .before .before .opening .ensures) (c .enum-told .given .1)
+pick-from-requires c κs = opened-with _ _ _ (c .before .before .opening .ensures) (c .enum-told .given .1)
 
 enum-known-opened : tie.Need-enum-known-opened
 enum-known-opened c = search needs

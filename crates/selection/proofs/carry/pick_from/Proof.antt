@@ -1,4 +1,5 @@
 -- Refused, or what the corrections taken come to. Assumes nothing.
+use Rattle.selection.proofs.PickSteps.{chosen-carries}
 use mathlib.Core.Path.{ap, _∙_}
 use Rattle.selection.specs.Pick.{pickedAs}
 use Rattle.selection.proofs.CarryLaws.{settled-refused, settled-stands, picked-same}
@@ -7,7 +8,7 @@ use Rattle.selection.proofs.carry.pick_from.Statement.{statement}
 use Rattle.selection.proofs.carry.pick_from.Tie as tie
 
 choose-requires : tie.Need-choose-requires
-choose-requires c κs = c .before .before .before .pre
+choose-requires c κs = c .before .before .before .pre .0
 
 enum-told : tie.Need-enum-told
 enum-told c = search needs
@@ -28,7 +29,7 @@ slice-aggregate-carry : tie.Need-slice-aggregate-carry
 slice-aggregate-carry c = search needs
 
 carry-requires : tie.Need-carry-requires
-carry-requires c κs = c .before .before .before .before .before .before .before .before .before .pre
+carry-requires c κs = (c .before .before .before .before .before .before .before .before .before .pre .0, chosen-carries _ _ _ _ _ (c .before .before .before .before .before .before .before .before .before .pre) (c .before .before .before .before .before .choose .ensures) (c .before .before .enum-told .given .1))
 
 returns-2 : tie.Need-returns-2
 returns-2 c =
