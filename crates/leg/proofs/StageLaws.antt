@@ -1,8 +1,9 @@
 -- What one stage does: refuse by the column that it found, or hand on; and how it finds the column.
 -- Assumes nothing.
-use mathlib.Core.Path.{_≡_, sym, _∙_}
-use mathlib.Core.Bool.{Bool, true, false, not, _&&_}
+use mathlib.Core.Path.{_≡_, refl, sym, ap, _∙_}
+use mathlib.Core.Bool.{Bool, true, false, not, _&&_, _||_}
 use mathlib.Core.List.{List, [], _∷_}
+use Prim.Native.Char.{code}
 use Prim.Native.Nat.{ℕ, zero, suc, _+_, _≤_, _<_}
 use native.Mathlib.Omega.{arith}
 use native.Mathlib.Numerals.{add-one}
@@ -14,13 +15,18 @@ use borrow.Author.Tests.{eqb-false, ne-eqb}
 use Rattle.slices.specs.Part.{blank}
 use Rattle.slices.proofs.Cases.{is-false, and-left, and-right}
 use Rattle.columns.specs.Fields.{bytesIn}
+use Rattle.columns.specs.Rows.{byteIn}
+use Rattle.columns.specs.Words.{columns}
 use Rattle.columns.specs.declared.field.Field.{Field}
 use Rattle.refusals.specs.declared.Refusal.{Refusal}
 use Rattle.refusals.specs.declared.Verdict.{Verdict}
 use Rattle.refusals.specs.declared.Verdict.the-variants.{Refused}
 use Rattle.leg.specs.Judge.{stage}
-use Rattle.leg.specs.Stages.{oddOne, missing}
+use Rattle.leg.specs.Stages.{oddOne, needable, asksBy, asks, missing, neededOf, neededColumn}
+use Rattle.leg.specs.Terminator.{terminatorNumber, terminatorOf, inLine}
 use Rattle.leg.specs.declared.stages.Needable.{Needable}
+use Rattle.leg.specs.declared.terminator.Terminator.{Terminator}
+use Rattle.leg.proofs.TerminatorLaws.{neededTable, row-needs}
 
 module _ {c x : ℕ} (f : ℕ → Refusal) (next : Verdict) (e : x ≡ c) where
   pub stage-refuses : {r : Refusal} → (x ≡ 0 → ⊥) → r ≡ f x → Refused r ≡ stage c f next
@@ -77,15 +83,41 @@ counted-at (n ∷ ns) d (suc i) h k = counted-at ns d i (counted-rest n ns h) (l
 
 -- one turn of the loop: the answer from here is the answer from the start
 module _ (asked : ℕ → Bool) (rec : List ℕ) (ns : List Needable) (i : ℕ) {whole : ℕ} (e : whole ≡ missing asked (drop i ns) rec) where
-  module _ (d : Needable) (h : i < length ns) {a b : Bool} (p : a ≡ asked (getD ns i d .0)) (q : b ≡ blank (bytesIn (getD ns i d .1) rec)) where
-    pub missing-here : (a && b) ≡ true → getD ns i d .1 .0 ≡ whole
+  module _ (d : Needable) (h : i < length ns) {a : Bool} (p : a ≡ (asked (getD ns i d .0) && blank (bytesIn (getD ns i d .1) rec))) where
+    pub missing-here : a ≡ true → getD ns i d .1 .0 ≡ whole
     unfolding missing
-    missing-here t = sym (e ∙ rw (drop-cons ns i d h, ← p, ← q, t))
+    missing-here t = sym (e ∙ rw (drop-cons ns i d h, ← p, t))
 
-    pub missing-on : (a && b) ≡ false → whole ≡ missing asked (drop (i + 1) ns) rec
+    pub missing-on : a ≡ false → whole ≡ missing asked (drop (i + 1) ns) rec
     unfolding missing
-    missing-on t = e ∙ rw (add-one, drop-cons ns i d h, ← p, ← q, t)
+    missing-on t = e ∙ rw (add-one, drop-cons ns i d h, ← p, t)
 
   pub missing-none : length ns ≤ i → 0 ≡ whole
   unfolding missing
   missing-none h = sym (e ∙ rw (drop-of-length-le ns h))
+
+-- what is asked for in two ways that agree is missing in both
+pub missing-same : (p q : ℕ → Bool) → ((letter : ℕ) → p letter ≡ q letter) → (ns : List Needable) (rec : List ℕ) → missing p ns rec ≡ missing q ns rec
+unfolding missing
+missing-same p q e [] rec = refl
+missing-same p q e (n ∷ ns) rec = rw (e (n .0), missing-same p q e ns rec)
+
+-- a field is missing where it is blank and asked for
+pub asked-blank : (a : Bool) {b x r : Bool} → r ≡ a → x ≡ b → x ≡ true → r ≡ (a && b)
+asked-blank true p q e = p ∙ sym (sym q ∙ e)
+asked-blank false p q e = p
+
+pub not-blank : (a : Bool) {b x : Bool} → x ≡ b → x ≡ false → false ≡ (a && b)
+not-blank true q e = sym (sym q ∙ e)
+not-blank false q e = refl
+
+-- what is missing by the terminator's line of the table is what is missing
+pub missing-by-line : (rec : List ℕ) {t : Terminator} {n b r : ℕ} → t ≡ terminatorOf (columns 48 49 rec) → b ≡ byteIn 83 rec → n ≡ terminatorNumber t
+    → r ≡ missing (asksBy (inLine neededTable n) (eqb b (code "B"))) needable rec → r ≡ neededColumn rec
+unfolding neededColumn neededOf
+missing-by-line rec {t} {n} {b} p q h e =
+    e
+    ∙ missing-same (asksBy (inLine neededTable n) (eqb b (code "B"))) (asks t (eqb b (code "B")))
+    (λ letter. rw h (ap (λ (x : Bool). ((eqb letter (code "A") || eqb letter (code " ")) && eqb b (code "B")) || x) (row-needs t letter)))
+    needable rec
+    ∙ rw (p, q)

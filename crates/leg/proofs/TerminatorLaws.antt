@@ -12,11 +12,11 @@ use native.Mathlib.Decide.{decLt}
 use native.Mathlib.Nat.{le-of-suc-le-suc, not-suc-le-zero}
 use lib.Dec.{eqb}
 use lib.ListN.{length, getD, replicate, List·getD-eq-default}
-use borrow.Author.Tests.{eqb-true, eqb-false}
+use borrow.Author.Tests.{eqb-true, eqb-false, eq-eqb}
 use Rattle.slices.specs.Part.{part, member}
 use Rattle.slices.specs.Order.{order, equal}
 use Rattle.slices.specs.Search.{firstAt}
-use Rattle.slices.proofs.Cases.{split}
+use Rattle.slices.proofs.Cases.{split, both, and-left, and-right}
 use Rattle.slices.proofs.EveryLaws.{every, below, each-below}
 use Rattle.slices.proofs.OrderLaws.{equal-iff}
 use Rattle.slices.proofs.PartLaws.{getD-any, part-all, member-append, member-replicate}
@@ -25,7 +25,7 @@ use Rattle.columns.specs.Patterns.{codes, texts}
 use Rattle.columns.specs.Terminators.{terminators}
 use Rattle.columns.specs.Words.{OneOf}
 use Rattle.columns.proofs.TerminatorList.{there-are-23, once}
-use Rattle.leg.specs.Terminator.{inOrder, terminatorNumber, nameOf, terminatorAt, foundAt, terminatorOf, needs, needed, among, endsAtFix, isHolding}
+use Rattle.leg.specs.Terminator.{inOrder, terminatorNumber, nameOf, terminatorAt, foundAt, terminatorOf, needs, needed, inLine, among, endsAtFix, isHolding}
 use Rattle.leg.specs.declared.terminator.Terminator.{Terminator}
 use Rattle.leg.specs.declared.terminator.Terminator.the-variants.{Af, Ca, Cd, Cf, Ci, Cr, Df, Fa, Fc, Fd, Fm, Ha, Hf, Hm, If, Pi, Rf, Tf, Va, Vd, Vi, Vm, Vr}
 
@@ -88,8 +88,8 @@ row-of Vi = record { its-needs = refl; its-letters = refl; its-end = refl; its-h
 row-of Vm = record { its-needs = refl; its-letters = refl; its-end = refl; its-holding = refl; its-name = refl; its-width = refl; its-letter = refl }
 row-of Vr = record { its-needs = refl; its-letters = refl; its-end = refl; its-holding = refl; its-name = refl; its-width = refl; its-letter = refl }
 
--- a letter is needed exactly when it is no blank and stands in the row of the table
-pub row-needs : (t : Terminator) (b : ℕ) → (not (eqb b 32) && member b (part 8 (terminatorNumber t * 8) neededTable)) ≡ member b (needed t)
+-- a letter is needed exactly when it stands in the terminator's line of the table
+pub row-needs : (t : Terminator) (b : ℕ) → inLine neededTable (terminatorNumber t) b ≡ member b (needed t)
 row-needs t b =
     split (eqb b 32) (λ e. let q : b ≡ 32 = eqb-true b 32 e in rw q (sym (row-of t .its-letters)))
     (λ e.
@@ -123,10 +123,29 @@ found f n e h = h ∙ ap terminatorAt e
 pub whole : (n : ℕ) (xs : List ℕ) → length xs ≡ n → part n 0 xs ≡ xs
 whole n xs h = subst (λ (m : ℕ). part m 0 xs ≡ xs) h (part-all xs)
 
+-- two bytes are a name of two letters where each is its letter
+two-letters : (x y a b : ℕ) → equal (x ∷ y ∷ []) (a ∷ b ∷ []) ≡ (eqb x a && eqb y b)
+two-letters x y a b =
+    split (equal (x ∷ y ∷ []) (a ∷ b ∷ []))
+    (λ e.
+    let q = equal-iff (x ∷ y ∷ []) (a ∷ b ∷ []) .0 e in
+    e ∙ sym (both (eq-eqb x a (ap (λ (l : List ℕ). getD l 0 0) q)) (eq-eqb y b (ap (λ (l : List ℕ). getD l 1 0) q))))
+    (λ e. e ∙ sym (split (eqb x a && eqb y b) (λ t. absurd (false≢true (sym e ∙ same t))) (λ t. t)))
+  where
+    same : (eqb x a && eqb y b) ≡ true → equal (x ∷ y ∷ []) (a ∷ b ∷ []) ≡ true
+    same t =
+        let p : x ≡ a = eqb-true x a (and-left (eqb x a) (eqb y b) t) in
+        let q : y ≡ b = eqb-true y b (and-right (eqb x a) (eqb y b) t) in
+        equal-iff (x ∷ y ∷ []) (a ∷ b ∷ []) .1 cc
+
 -- the test that the search makes at one name
-pub name-test : (rec name : List ℕ) (at : ℕ) → at ≡ 47 → length name ≡ 2 → {r : Bool} → r ≡ equal (part 2 at rec) (part 2 0 name)
-    → equal (part 2 47 rec) name ≡ r
-name-test rec name at q h e = rw (e, q, whole 2 name h)
+pub name-test : (rec name : List ℕ) → length name ≡ 2 → {x y : ℕ} {r : Bool} → x ≡ getD rec 47 0 → y ≡ getD rec 48 0
+    → r ≡ (eqb x (getD name 0 0) && eqb y (getD name 1 0)) → equal (part 2 47 rec) name ≡ r
+unfolding part
+name-test rec [] h p q e = absurd (omega arith)
+name-test rec (a ∷ []) h p q e = absurd (omega arith)
+name-test rec (a ∷ (b ∷ [])) h p q e = rw (← p, ← q) (two-letters _ _ a b ∙ sym e)
+name-test rec (a ∷ (b ∷ (c ∷ name))) h p q e = absurd (omega arith)
 
 -- within the order no default is asked for
 pub in-order : (n : ℕ) (d : Terminator) → n < 23 → getD inOrder n d ≡ terminatorAt n
@@ -137,6 +156,10 @@ in-order n d h = getD-any inOrder n d Vr h
 pub past : (n : ℕ) → 23 ≤ n → terminatorAt n ≡ Vr
 unfolding terminatorAt inOrder
 past n h = List·getD-eq-default inOrder Vr h
+
+-- a number that is none of those before it
+pub one-more : {n k : ℕ} → k ≤ n → (n ≡ k → ⊥) → k + 1 ≤ n
+one-more h d = omega (arith, h, d)
 
 -- ---- what is found in it
 

@@ -56,8 +56,11 @@ needable =
     []
 
 -- the leg needs the field of a letter: with description B it is one of both altitudes, or the terminator needs it
+abbrev pub asksBy : (ℕ → Bool) → Bool → ℕ → Bool
+asksBy needs both letter = ((eqb letter (code "A") || eqb letter (code " ")) && both) || needs letter
+
 abbrev pub asks : Terminator → Bool → ℕ → Bool
-asks t both letter = ((eqb letter (code "A") || eqb letter (code " ")) && both) || member letter (needed t)
+asks t = asksBy (λ letter. member letter (needed t))
 
 -- the first column of the leftmost field that is asked for and blank
 unfoldable pub missing : (ℕ → Bool) → List Needable → List ℕ → ℕ

@@ -1,10 +1,12 @@
 -- The 23 path terminators: their names, the fields that each needs, which of them end at a fix, which are holdings.
 -- Assumes nothing.
-use Prim.Native.Nat.{ℕ}
+use Prim.Native.Nat.{ℕ, _*_}
 use Prim.Native.String.{String}
-use mathlib.Core.Bool.{Bool, false, _||_}
+use mathlib.Core.Bool.{Bool, false, not, _&&_, _||_}
 use mathlib.Core.List.{List, [], _∷_}
+use lib.Dec.{eqb}
 use lib.ListN.{getD}
+use Rattle.slices.specs.Part.{part, member}
 use Rattle.slices.specs.Order.{equal}
 use Rattle.slices.specs.Search.{firstAt}
 use Rattle.columns.specs.Patterns.{codes, texts}
@@ -85,6 +87,10 @@ needs Pi = "FTNHRCDA"
 -- the same as bytes
 unfoldable pub needed : Terminator → List ℕ
 needed t = codes (needs t)
+
+-- a letter, and no blank, stands in line n of a table of eight letters a line
+abbrev pub inLine : List ℕ → ℕ → ℕ → Bool
+inLine lines n letter = not (eqb letter 32) && member letter (part 8 (n * 8) lines)
 
 unfoldable pub among : List ℕ → List (List ℕ) → Bool
 among f [] = false

@@ -1,11 +1,15 @@
 // The stages of judging that look at more than one field: companions, and the fields that a leg needs. Each answers a column, or 0.
 // Assumes of its callers, all in this file, that columns count from 1; the two stages themselves assume nothing.
 ghost use mathlib.Core.Path.{_≡_};
-ghost use Prim.Native.Nat.{_≤_};
+ghost use mathlib.Core.Bool.{_&&_};
+ghost use Prim.Native.Nat.{_≤_, _<_};
 ghost use Rattle.slices.specs.Part.{blank};
 ghost use Rattle.columns.specs.Fields.{bytesIn};
-ghost use Rattle.leg.specs.Stages.{oddOne, asks, companionColumn, neededColumn};
+ghost use Rattle.leg.specs.Stages.{oddOne, asksBy, companionColumn, needable, missing, neededColumn};
+ghost use Rattle.leg.specs.Terminator.{inLine};
+use crate::terminator::NEEDED;
 use crate::terminator::Terminator;
+use crate::terminator::in_line;
 use columns::field::Field;
 use slices::byte_at;
 
@@ -78,11 +82,43 @@ const NEEDABLE: [Needable; 11] = [
     Needable(b'O', Terminator::CENTRE_FIX),
 ];
 
-// Whether a leg needs the field of a letter: by its terminator, or because it is one of both altitudes.
-fn asked(t: Terminator, both: bool, letter: u8) -> bool
-    ensures { λ r. ⌜ r ≡ asks t both letter ⌝ }
+// Whether a leg needs the field of a letter: by line n of the table of needed fields, or because it is one of both altitudes.
+fn asked(lines: &[u8], n: usize, both: bool, letter: u8) -> bool
+    requires { ⌜ n < 23 ⌝ }
+    ensures { λ r. ⌜ r ≡ asksBy (inLine (now (lines .entry)) n) both letter ⌝ }
 {
-    (((letter == b'A') | (letter == b' ')) & both) | t.needed(letter)
+    (((letter == b'A') | (letter == b' ')) & both) | in_line(lines, n, letter)
+}
+
+// Whether a field is asked for and blank. A filled field is mostly told by its first byte, so that is looked at first.
+fn is_missing<'a>(lines: &'a [u8], n: usize, both: bool, one: Needable, rec: &'a [u8]) -> bool
+    requires { ⌜ (n < 23) × (1 ≤ one .1 .0) ⌝ }
+    ensures { λ r. ⌜ r ≡ (asksBy (inLine (now (lines .entry)) n) both (one .0) && blank (bytesIn (one .1) (now (rec .entry)))) ⌝ }
+{
+    let field = one.1;
+    if is_blank(rec, field) {
+        asked(lines, n, both, one.0)
+    } else {
+        false
+    }
+}
+
+// The lowest column of a field that is asked for and blank, or 0.
+fn missing_column<'a>(lines: &'a [u8], n: usize, both: bool, rec: &'a [u8]) -> usize
+    requires { ⌜ n < 23 ⌝ }
+    ensures { λ r. ⌜ r ≡ missing (asksBy (inLine (now (lines .entry)) n) both) needable (now (rec .entry)) ⌝ }
+{
+    let all = NEEDABLE;
+    let mut i = 0;
+    while i < 11 {
+        let one = all[i];
+        if is_missing(lines, n, both, one, rec) {
+            let field = one.1;
+            return field.0;
+        }
+        i += 1;
+    }
+    0
 }
 
 // The lowest column of a field that the leg needs and that is blank, or 0.
@@ -91,14 +127,5 @@ pub(crate) fn needed_column(rec: &[u8]) -> usize
 {
     let t = Terminator::of(rec);
     let both = byte_at(rec, Field::ALTITUDE_DESCRIPTION.0 - 1) == b'B';
-    let mut i = 0;
-    while i < 11 {
-        let n = NEEDABLE[i];
-        let field = n.1;
-        if asked(t, both, n.0) & is_blank(rec, field) {
-            return field.0;
-        }
-        i += 1;
-    }
-    0
+    missing_column(&NEEDED, t.number(), both, rec)
 }

@@ -1,16 +1,19 @@
 // The 23 path terminators, in the order of the standard's tables. Assumes nothing of the caller.
 ghost use mathlib.Core.Path.{_≡_};
+ghost use mathlib.Core.Bool.{_&&_};
 ghost use Prim.Native.Nat.{_<_};
+ghost use lib.Dec.{eqb};
+ghost use lib.ListN.{getD};
 ghost use lib.Seq.{sets};
 ghost use Rattle.slices.specs.Part.{member};
 ghost use Rattle.slices.specs.Order.{equal};
 ghost use Rattle.slices.specs.Search.{firstAt};
 ghost use Rattle.columns.specs.Words.{columns};
-ghost use Rattle.leg.specs.Terminator.{terminatorNumber, nameOf, terminatorAt, terminatorOf, needed, endsAtFix, isHolding};
+ghost use Rattle.leg.specs.Terminator.{terminatorNumber, inLine, nameOf, terminatorAt, terminatorOf, needed, endsAtFix, isHolding};
 use columns::field::Field;
+use slices::byte_at;
 use slices::copy;
 use slices::has;
-use slices::same;
 
 pub enum Terminator {
     Af,
@@ -67,7 +70,7 @@ const NAMES: [[u8; 2]; 23] = [
 ];
 
 // For each terminator, a line each, the letters of the fields that it needs, and blanks up to eight places.
-const NEEDED: [u8; 184] = *b"\
+pub(crate) const NEEDED: [u8; 184] = *b"\
     FTNHRC  \
     CA      \
     NCD     \
@@ -97,19 +100,35 @@ const ENDS: [u8; 23] = *b"10010010000111101100000";
 
 const HOLDINGS: [u8; 23] = *b"00000000000111000000000";
 
+// Whether a name is these two letters.
+fn is_name(name: &[u8], first: u8, second: u8) -> bool
+    ensures { λ r. ⌜ r ≡ (eqb first (getD (now (name .entry)) 0 0) && eqb second (getD (now (name .entry)) 1 0)) ⌝ }
+{
+    (first == byte_at(name, 0)) & (second == byte_at(name, 1))
+}
+
 // The place of a record's terminator in a list of names, or the list's length where it is none of them.
 fn place_among<'a>(names: &'a [[u8; 2]], rec: &'a [u8]) -> usize
     ensures { λ r. ⌜ r ≡ firstAt (equal (columns 48 49 (now (rec .entry)))) (now (names .entry)) ⌝ }
 {
-    let at = Terminator::column() - 1;
+    let first = byte_at(rec, Terminator::COLUMN - 1);
+    let second = byte_at(rec, Terminator::COLUMN);
     let mut i = 0;
     while i < names.len() {
-        if same(rec, at, &names[i], 0, 2) {
+        if is_name(&names[i], first, second) {
             return i;
         }
         i += 1;
     }
     i
+}
+
+// Whether a letter stands in line n of a table that has eight letters a line. Blanks only fill a line up.
+pub(crate) fn in_line(lines: &[u8], n: usize, letter: u8) -> bool
+    requires { ⌜ n < 23 ⌝ }
+    ensures { λ r. ⌜ r ≡ inLine (now (lines .entry)) n letter ⌝ }
+{
+    (letter != b' ') & has(lines, n * 8, 8, letter)
 }
 
 impl Terminator {
@@ -179,32 +198,32 @@ impl Terminator {
     fn at(n: usize) -> Terminator
         ensures { λ r. ⌜ r ≡ terminatorAt n ⌝ }
     {
-        let all = [
-            Terminator::Af,
-            Terminator::Ca,
-            Terminator::Cd,
-            Terminator::Cf,
-            Terminator::Ci,
-            Terminator::Cr,
-            Terminator::Df,
-            Terminator::Fa,
-            Terminator::Fc,
-            Terminator::Fd,
-            Terminator::Fm,
-            Terminator::Ha,
-            Terminator::Hf,
-            Terminator::Hm,
-            Terminator::If,
-            Terminator::Pi,
-            Terminator::Rf,
-            Terminator::Tf,
-            Terminator::Va,
-            Terminator::Vd,
-            Terminator::Vi,
-            Terminator::Vm,
-            Terminator::Vr,
-        ];
-        if n < 23 { all[n] } else { Terminator::Vr }
+        match n {
+            0 => Terminator::Af,
+            1 => Terminator::Ca,
+            2 => Terminator::Cd,
+            3 => Terminator::Cf,
+            4 => Terminator::Ci,
+            5 => Terminator::Cr,
+            6 => Terminator::Df,
+            7 => Terminator::Fa,
+            8 => Terminator::Fc,
+            9 => Terminator::Fd,
+            10 => Terminator::Fm,
+            11 => Terminator::Ha,
+            12 => Terminator::Hf,
+            13 => Terminator::Hm,
+            14 => Terminator::If,
+            15 => Terminator::Pi,
+            16 => Terminator::Rf,
+            17 => Terminator::Tf,
+            18 => Terminator::Va,
+            19 => Terminator::Vd,
+            20 => Terminator::Vi,
+            21 => Terminator::Vm,
+            22 => Terminator::Vr,
+            _ => Terminator::Vr,
+        }
     }
 
     // The terminator in columns 48 and 49 of a record; VR where they hold none, which is refused by 3 before anything asks.
@@ -227,8 +246,7 @@ impl Terminator {
     pub fn needed(self, letter: u8) -> bool
         ensures { λ r. ⌜ r ≡ member letter (needed self) ⌝ }
     {
-        let n = self.number();
-        (letter != b' ') & has(&NEEDED, n * 8, 8, letter)
+        in_line(&NEEDED, self.number(), letter)
     }
 
     // Whether the leg ends at a fix.

@@ -1,14 +1,13 @@
--- What the terminator needs is handed on. Assumes nothing.
-use Rattle.leg.specs.Terminator.{needed}
+-- What stands in the line is handed on. Assumes nothing.
 use borrow.Author.Needs.{needs}
 use Rattle.leg.proofs.stages.asked.Statement.{statement}
 use Rattle.leg.proofs.stages.asked.Tie as tie
 
-needed-requires : tie.Need-needed-requires
-needed-requires c κs = search needs
+in-line-requires : tie.Need-in-line-requires
+in-line-requires c κs = search needs
 
 returns : tie.Need-returns
-returns c = rw (c .needed .ensures)
+returns c = rw (c .in-line .ensures)
 
 pub asked-spec : {M : Type 1} → statement M
-asked-spec = tie.close (tie.spec needed-requires returns)
+asked-spec = tie.close (tie.spec in-line-requires returns)

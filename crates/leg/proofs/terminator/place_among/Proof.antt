@@ -1,11 +1,10 @@
--- The invariant: the names that are left give the answer. Assumes nothing.
+-- The invariant: the two letters of the record, and the names that are left give the answer. Assumes nothing.
 use borrow.Author.Needs.{needs}
-use native.Mathlib.Omega.{arith}
 use mathlib.Core.Path.{_≡_, _∙_}
 use Prim.Native.Nat.{_-_}
 use mathlib.Core.List.{[]}
 use native.Mathlib.Nat.{zero-add}
-use lib.ListN.{length}
+use lib.ListN.{length, getD}
 use Rattle.leg.proofs.TerminatorLaws.{name-test}
 use Rattle.slices.proofs.SearchLaws.{Come, starts, finds, goes-on, ends}
 use Rattle.slices.specs.Order.{equal}
@@ -14,36 +13,38 @@ use Rattle.leg.proofs.terminator.place_among.Statement.{statement}
 use Rattle.leg.proofs.terminator.place_among.Tie as tie
 
 abbrev Inv-loop : tie.InvT-loop
-Inv-loop names rec at i₀ i = (at ≡ 47) × Come (equal (part 2 47 rec)) [] names 0 i
+Inv-loop names rec first second i₀ i = (first ≡ getD rec 47 0) × (second ≡ getD rec 48 0) × Come (equal (part 2 47 rec)) [] names 0 i
 
 abbrev μ-loop : tie.MeasureT-loop
-μ-loop names rec at i₀ i = length names - i
+μ-loop names rec first second i₀ i = length names - i
 
-column-requires : tie.Need-column-requires Inv-loop μ-loop
-column-requires c κs = search needs
+sub-byte-at : tie.Need-sub-byte-at Inv-loop μ-loop
+sub-byte-at c = search needs
 
-sub-at : tie.Need-sub-at Inv-loop μ-loop
-sub-at c = search needs
+byte-at-requires : tie.Need-byte-at-requires Inv-loop μ-loop
+byte-at-requires c κs = search needs
+
+byte-at-requires-2 : tie.Need-byte-at-requires-2 Inv-loop μ-loop
+byte-at-requires-2 c κs = search needs
 
 loop-holds : tie.Need-loop-holds Inv-loop μ-loop
-loop-holds c = (omega (arith, c .column .ensures), starts _ [] _ 0)
+loop-holds c = (c .before .byte-at .ensures, c .byte-at2 .ensures, starts _ [] _ 0)
 
-mul-same : tie.Need-mul-same Inv-loop μ-loop
-mul-same c = search needs
+mul-is-name : tie.Need-mul-is-name Inv-loop μ-loop
+mul-is-name c = search needs
 
-shared-slice-element-same : tie.Need-shared-slice-element-same Inv-loop μ-loop
-shared-slice-element-same c = search needs
+shared-slice-element-is-name : tie.Need-shared-slice-element-is-name Inv-loop μ-loop
+shared-slice-element-is-name c = search needs
 
-same-requires : tie.Need-same-requires Inv-loop μ-loop
-same-requires c κs = search needs
+is-name-requires : tie.Need-is-name-requires Inv-loop μ-loop
+is-name-requires c κs = search needs
 
 returns : tie.Need-returns Inv-loop μ-loop
 returns c =
-    let row = c .before .before in
-    let turn = row .before .before in
-    finds _ [] _ 0 _ (turn .before .loop .inv .1) (turn .loop-test .taken)
-    (name-test _ _ _ (turn .before .loop .inv .0) (row .same-arg2 .given .0) (c .before .same .ensures) ∙ c .if1 .taken)
-    ∙ zero-add _
+    let name = c .before .before in
+    let turn = name .before .before in
+    let inv = turn .before .loop .inv in
+    finds _ [] _ 0 _ (inv .2) (turn .loop-test .taken) (name-test _ _ (name .is-name-arg2 .given .0) (inv .0) (inv .1) (c .before .is-name .ensures) ∙ c .if1 .taken) ∙ zero-add _
 
 add-i : tie.Need-add-i Inv-loop μ-loop
 add-i c = search needs
@@ -53,15 +54,13 @@ loop-less c = search needs
 
 loop-again : tie.Need-loop-again Inv-loop μ-loop
 loop-again c =
-    let row = c .before .before in
-    let turn = row .before .before in (
-      turn .before .loop .inv .0,
-      goes-on _ [] _ 0 _ (turn .before .loop .inv .1) (turn .loop-test .taken)
-          (name-test _ _ _ (turn .before .loop .inv .0) (row .same-arg2 .given .0) (c .before .same .ensures) ∙ c .if1 .left),
-    )
+    let name = c .before .before in
+    let turn = name .before .before in
+    let inv = turn .before .loop .inv in
+    (inv .0, inv .1, goes-on _ [] _ 0 _ (inv .2) (turn .loop-test .taken) (name-test _ _ (name .is-name-arg2 .given .0) (inv .0) (inv .1) (c .before .is-name .ensures) ∙ c .if1 .left))
 
 returns-2 : tie.Need-returns-2 Inv-loop μ-loop
-returns-2 c = ends _ [] _ 0 _ (c .before .loop .inv .1) (c .loop-test .left) ∙ zero-add _
+returns-2 c = ends _ [] _ 0 _ (c .before .loop .inv .2) (c .loop-test .left) ∙ zero-add _
 
 pub place-among-spec : {M : Type 1} → statement M
 place-among-spec =
@@ -69,12 +68,13 @@ place-among-spec =
     (tie.spec
     Inv-loop
     μ-loop
-    column-requires
-    sub-at
+    sub-byte-at
+    byte-at-requires
+    byte-at-requires-2
     loop-holds
-    mul-same
-    shared-slice-element-same
-    same-requires
+    mul-is-name
+    shared-slice-element-is-name
+    is-name-requires
     returns
     add-i
     loop-less
