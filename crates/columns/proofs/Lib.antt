@@ -7,6 +7,7 @@ pub mod CycleMoved
 pub mod FieldLaws
 pub mod LetterLaws
 pub mod PatternLaws
+mod QuickLaws
 pub mod RowLaws
 pub mod ShortFields
 mod SightLaws

@@ -89,6 +89,12 @@ abbrev pub Counted : List Row → Type 0
 Counted [] = Unit {0}
 Counted (r ∷ rs) = (1 ≤ r .column) × Counted rs
 
+-- where every row is right nothing is answered
+pub every-zero : (f : Row → List ℕ → ℕ) (rec : List ℕ) (rs : List Row) → EveryRow rs rec → firstOf f rs rec ≡ 0
+unfolding firstOf
+every-zero f rec [] h = refl
+every-zero f rec (r ∷ rs) h = rw (h .0) (every-zero f rec rs (h .1))
+
 -- the answer 0, whatever is answered of a row, if that is at its first column or behind it: every field's bytes match one of its patterns
 module _ (f : Row → List ℕ → ℕ) (rec : List ℕ) (behind : (r : Row) → r .column ≤ f r rec) where
   zero-every : (rs : List Row) → Counted rs → firstOf f rs rec ≡ 0 → EveryRow rs rec
@@ -97,13 +103,8 @@ module _ (f : Row → List ℕ → ℕ) (rec : List ℕ) (behind : (r : Row) →
   zero-every (r ∷ rs) p e =
       split (rowOk r rec) (λ t. (t, zero-every rs (p .1) (rw t at e))) (λ t. let z : f r rec ≡ 0 = rw t at e in absurd (omega (arith, p .0, behind r)))
 
-  every-zero : (rs : List Row) → EveryRow rs rec → firstOf f rs rec ≡ 0
-  unfolding firstOf
-  every-zero [] h = refl
-  every-zero (r ∷ rs) h = rw (h .0) (every-zero rs (h .1))
-
   pub answer-zero-iff : (rs : List Row) → Counted rs → (firstOf f rs rec ≡ 0) ↔ EveryRow rs rec
-  answer-zero-iff rs p = (zero-every rs p, every-zero rs)
+  answer-zero-iff rs p = (zero-every rs p, every-zero f rec rs)
 
 pub zero-iff : (rs : List Row) (rec : List ℕ) → Counted rs → (firstBad rs rec ≡ 0) ↔ EveryRow rs rec
 zero-iff rs rec = answer-zero-iff columnOf rec (λ r. omega arith) rs

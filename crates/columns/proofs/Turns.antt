@@ -2,12 +2,13 @@
 -- loops make of their answers.
 -- Assumes nothing.
 use mathlib.Core.Path.{_≡_, refl, sym, ap₂, _∙_}
-use mathlib.Core.Bool.{Bool, true, false, cond, _||_}
+use mathlib.Core.Bool.{Bool, true, false, cond, _||_, and-true, and-false, false≢true}
 use mathlib.Core.List.{List, [], _∷_}
-use Prim.Native.Nat.{ℕ, suc, _+_, _*_, _-_, _<_, _≤_, suc-le-suc, max, compare·suc-suc, compare·zero-suc}
+use Prim.Native.Nat.{ℕ, zero, suc, _+_, _*_, _-_, _<_, _≤_, suc-le-suc, max, compare·suc-suc, compare·zero-suc}
 use native.Mathlib.Omega.{arith}
 use native.Mathlib.Nat.{sub-zero, zero-add, zero-max, mul-le-mul-left}
-use lib.Dec.{eqb}
+use lib.Dec.{eqb, leb}
+use borrow.Author.Tests.{eqb-false, leb-false}
 use lib.ListN.{getD, length}
 use Rattle.slices.specs.Part.{part}
 use Rattle.slices.proofs.Cases.{split}
@@ -17,6 +18,7 @@ use Rattle.columns.specs.Patterns.{fitsAll}
 use Rattle.columns.specs.Rows.{Alternative, Row, stands, alternativeOk, matches, rowOk, firstOf}
 use Rattle.columns.specs.Stops.{run, runOf, longest, stopOf}
 use Rattle.columns.specs.Table.{alternativeAt, alternativesAt, rowAt, rowsAt, decode}
+use Rattle.columns.proofs.PatternLaws.{fits-plain}
 
 -- a row's alternatives take at most this much of a table
 pub small : (n w : ℕ) → n < 256 → w < 256 → n * (w + 2) ≤ 65535
@@ -59,6 +61,24 @@ run-all t rec w p at h =
     let l = length-part w at rec in
     ap₂ eqb h (sym l) ∙ fits-run (part w p t) (part w at rec) (length-part w p t ∙ sym l)
 
+-- one letter
+pub fits-one : (t rec : List ℕ) (p at w : ℕ) {x y : ℕ} {r : Bool} → w ≡ 1 → x ≡ getD t p 0 → y ≡ getD rec at 0 → r ≡ fits x y → r ≡ fitsAll (part w p t) (part w at rec)
+unfolding part fitsAll
+fits-one t rec p at w h hx hy e = rw (h, ← hx, ← hy) (e ∙ sym (and-true _))
+
+-- a pattern whose first letter stands for itself fits only what begins with it
+pub plain-first : (c b w : ℕ) → (eqb w 0 || (leb 97 c || eqb b c)) ≡ false → (1 ≤ w) × (fits c b ≡ false)
+plain-first c b w e =
+    split (eqb w 0) (λ x. absurd (false≢true (sym e ∙ rw x)))
+    (λ x.
+    split (leb 97 c) (λ y. absurd (false≢true (sym e ∙ rw (x, y))))
+    (λ y. (omega (arith, eqb-false w 0 x), fits-plain c b (leb-false 97 c y) ∙ sym (rw (x, y)) ∙ e)))
+
+pub first-fails : (t rec : List ℕ) (p at w : ℕ) {x b : ℕ} → x ≡ getD t p 0 → b ≡ getD rec at 0 → (1 ≤ w) × (fits x b ≡ false) → fitsAll (part w p t) (part w at rec) ≡ false
+unfolding part fitsAll
+first-fails t rec p at zero hx hb (l, e) = absurd (omega arith)
+first-fails t rec p at (suc w) hx hb (l, e) = rw (← hx, ← hb, e)
+
 -- an alternative is its pattern where its guard stands, and nothing where it does not
 module _ (t rec : List ℕ) (at p w : ℕ) {x y : ℕ} {g : Bool} (hx : x ≡ getD t p 0) (hy : y ≡ getD t (p + 1) 0) (hg : g ≡ stands x y rec) where
   guard : stands (getD t p 0) (getD t (p + 1) 0) rec ≡ g
@@ -75,6 +95,9 @@ module _ (t rec : List ℕ) (at p w : ℕ) {x y : ℕ} {g : Bool} (hx : x ≡ ge
 
   pub run-failed : g ≡ false → 0 ≡ runOf (alternativeAt t w p) rec (part w at rec)
   run-failed e = rw (guard, e)
+
+pub pattern-failed : (t rec : List ℕ) (at p w : ℕ) → fitsAll (part w (p + 2) t) (part w at rec) ≡ false → false ≡ alternativeOk (alternativeAt t w p) rec (part w at rec)
+pattern-failed t rec at p w e = sym (rw e (and-false (stands (getD t p 0) (getD t (p + 1) 0) rec)))
 
 -- the alternatives of a row, of which j are passed, the next one at p
 pub alternativesLeft : List ℕ → List ℕ → ℕ → ℕ → ℕ → ℕ → ℕ → Bool

@@ -9,6 +9,8 @@ pub mod Fields
 pub mod Layout
 pub mod Kinds
 pub mod Table
+pub mod Quick
+pub mod Neighbours
 pub mod Calendar
 pub mod Words
 pub mod Samples

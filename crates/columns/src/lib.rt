@@ -4,6 +4,7 @@
 mod byte_sets;
 pub mod field;
 mod matcher;
+mod quick;
 mod tables;
 
 ghost use mathlib.Core.Path.{_≡_};
