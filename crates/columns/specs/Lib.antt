@@ -1,5 +1,5 @@
--- The table of columns as data, what its rows mean when they are run, where a field goes wrong, what the paper says in words, with the calendar
--- that it speaks of, and sample records.
+-- The table of columns as data, what its rows mean when they are run, a quick yes for most of what they allow, where a field goes wrong,
+-- what the paper says in words, with the calendar that it speaks of, and sample records.
 pub mod ByteSets
 pub mod Patterns
 pub mod Terminators

@@ -1,6 +1,6 @@
 // Which byte may stand in which column of a record. The layouts are data (specs/Layout.antt); one matcher holds a record to the table
-// of bytes that it is lent. Assumes nothing of the caller: a record is any slice, and a byte past its end reads as 0, which is legal
-// nowhere.
+// of bytes that it is lent, behind a quick yes for what most primary records hold. Assumes nothing of the caller: a record is any slice, and
+// a byte past its end reads as 0, which is legal nowhere.
 mod byte_sets;
 pub mod field;
 mod matcher;

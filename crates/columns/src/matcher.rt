@@ -1,5 +1,6 @@
 // The matcher: holds a record to whatever table it is lent. A table's form is that of specs/Table.antt; a byte past its end reads as 0.
-// Assumes of its callers, all in this file, the small bounds that each `requires` names; `first_bad_by` assumes nothing.
+// Assumes of its callers in this file the small bounds that each `requires` names, and of that of `rows_right` as many indices as places;
+// `first_bad_by` assumes nothing.
 ghost use mathlib.Core.Path.{_≡_};
 ghost use mathlib.Core.Bool.{true, false};
 ghost use Prim.Native.Nat.{_<_, _≤_, max};

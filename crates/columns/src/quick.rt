@@ -1,6 +1,6 @@
-// A quick yes in front of the matcher: one look at each byte and the one before it, by a table of the pairs that may stand side by side. What the
-// table takes is legal, as proofs/QuickLaws.antt computes of it; what it does not take is for the matcher to say. Each step does the same for every column
-// and nothing depends on the step before, so the compiler takes many columns at once.
+// A quick yes in front of the matcher: one look at each byte and the one before it, by a table of the pairs that may stand side by side. What
+// the table takes is legal, as proofs/QuickLaws.antt computes of it; what it does not take is for the matcher to say. The same is done for every
+// column, and stops at none, so the compiler takes many columns at once.
 // Assumes of its callers the lengths that each `requires` names.
 ghost use mathlib.Core.Path.{_≡_};
 ghost use mathlib.Core.Bool.{true};
