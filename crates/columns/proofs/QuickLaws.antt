@@ -21,7 +21,7 @@ use Rattle.columns.specs.Patterns.{fitsAll, anyOf}
 use Rattle.columns.specs.Rows.{Alternative, Row, stands, alternativeOk, matches, rowOk, EveryRow}
 use Rattle.columns.specs.Layout.{primary}
 use Rattle.columns.specs.Table.{alternativesAt, rowAt, rowsAt, encode, decode}
-use Rattle.columns.specs.Quick.{Pair, pairTakes, takes, noPair, pairNo, joined, linesOf, inLines, lines, pairAt, pairsAt, columnTaken, Taken, RowsRight}
+use Rattle.columns.specs.Quick.{Pair, pairTakes, takes, none, pairNo, joined, linesOf, inLines, lines, pairAt, pairsAt, columnTaken, Taken, RowsRight}
 use Rattle.columns.proofs.Tied.{tied}
 
 abbrev or : Bool → Bool → Bool
@@ -368,11 +368,11 @@ in-line (f ∷ fs) columns (suc j) c i h e =
 -- up to four pairs, made four
 unfoldable padded : ℕ → List Pair → List Pair
 padded zero ps = []
-padded (suc n) [] = noPair ∷ padded n []
+padded (suc n) [] = none ∷ padded n []
 padded (suc n) (p ∷ ps) = p ∷ padded n ps
 
 no-pair : (x : ℕ) → within 255 0 x ≡ true → ⊥
-no-pair x h = let lo = first-in (noPair .before) x h in let hi = last-in (noPair .before) x h in omega (arith, lo, hi)
+no-pair x h = let lo = first-in (none .before) x h in let hi = last-in (none .before) x h in omega (arith, lo, hi)
 
 padded-takes : (n : ℕ) (ps : List Pair) (x b : ℕ) → takes (padded n ps) x b ≡ true → takes ps x b ≡ true
 unfolding padded takes

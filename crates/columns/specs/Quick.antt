@@ -21,6 +21,10 @@ r ▸ s = record { before = r; here = s }
 abbrev pub any : Range
 any = record { first = 0; last = 255 }
 
+-- takes nothing: no byte is in such a range
+abbrev pub none : Pair
+none = record { before = record { first = 255; last = 0 }; here = record { first = 255; last = 0 } }
+
 -- a pair takes a byte behind another
 abbrev pub pairTakes : Pair → ℕ → ℕ → Bool
 pairTakes p before b = within (p .before .first) (p .before .last) before && within (p .here .first) (p .here .last) b
@@ -32,11 +36,8 @@ takes (p ∷ ps) before b = pairTakes p before b || takes ps before b
 
 -- ---- as a table: 16 lines of 132 bytes, of up to four pairs a column
 
-abbrev pub noPair : Pair
-noPair = record { before = record { first = 255; last = 0 }; here = record { first = 255; last = 0 } }
-
 abbrev pub pairNo : ℕ → List Pair → Pair
-pairNo i ps = getD ps i noPair
+pairNo i ps = getD ps i none
 
 -- the columns of some rows, one after the other
 unfoldable pub joined : List (List (List Pair)) → List (List Pair)
