@@ -1,20 +1,20 @@
 -- What a correction comes to, a law for each way that it ends.
 -- Assumes nothing.
 use mathlib.Core.Path.{_≡_, refl, sym, ap, ap₂, subst, _∙_}
-use mathlib.Core.Bool.{Bool, true, false, cond}
+use mathlib.Core.Bool.{Bool, true, false}
 use mathlib.Core.List.{List}
 use mathlib.Core.Option.{Option, some}
 use Prim.Native.Nat.{ℕ, _≤_}
 use native.Mathlib.Omega.{arith}
-use Rattle.refusals.specs.Table.{refusal, doesNotApply, routeRefused}
+use Rattle.refusals.specs.Table.{doesNotApply, routeRefused}
 use Rattle.refusals.specs.declared.Refusal.{Refusal}
 use Rattle.refusals.specs.declared.Verdict.{Verdict}
 use Rattle.refusals.specs.declared.Verdict.the-variants.{Accepted, Refused}
 use Rattle.corrections.specs.Reading.{Entry}
-use Rattle.routes.specs.Sources.{inUse, sourcesIn, sourcesFor}
+use Rattle.routes.specs.Sources.{inUse, sourcesIn}
 use Rattle.applying.specs.State.{held, Gives}
-use Rattle.applying.specs.Apply.{linesApplied, failsAt, touchedJudged, refusedRoute, Judges}
-use Rattle.applying.specs.Correct.{noMore, wrongLine, wrongRoute, Outcome, reached, afterLines, afterJudging, correctedBy, faultAs, faultIn, lineTrouble, Comes, refused, stands}
+use Rattle.applying.specs.Apply.{linesApplied, failsAt, Judges}
+use Rattle.applying.specs.Correct.{noMore, wrongLine, wrongRoute, reached, afterLines, afterJudging, correctedBy, faultAs, faultIn, lineTrouble, Comes, refused, stands}
 use Rattle.applying.specs.declared.correct.Corrected.{Corrected}
 use Rattle.applying.specs.declared.faults.Trouble.{Trouble}
 use Rattle.applying.specs.declared.judge.Judged.{Judged}

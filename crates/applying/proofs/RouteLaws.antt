@@ -2,7 +2,7 @@
 -- Assumes nothing.
 use mathlib.Core.Path.{_≡_, refl, sym, ap, ap₂, subst, _∙_}
 use mathlib.Core.Logic.{_⊎_, inl, inr, ⊎-elim}
-use mathlib.Core.Bool.{Bool, true, false, cond, false≢true}
+use mathlib.Core.Bool.{true, false≢true}
 use mathlib.Core.List.{List, [], _∷_, map}
 use Prim.Native.Nat.{ℕ, zero, suc, _+_, _≤_, _<_}
 use native.Mathlib.Omega.{arith}
@@ -16,14 +16,13 @@ use Rattle.slices.specs.declared.Ordering.the-variants.{Less, Equal, Greater}
 use Rattle.slices.proofs.Cases.{split}
 use Rattle.slices.proofs.OrderLaws.{after, order-greater, order-level, order-refl, order-turned, turned, order-equal, equal-iff, irreflexive, transitive}
 use Rattle.slices.proofs.PartLaws.{length-part}
-use Rattle.routes.specs.Places.{keyOf, sequenceOf, placeOf, ofRoute, Before, Every, Rising}
+use Rattle.routes.specs.Places.{keyOf, placeOf, ofRoute, Before, Every}
 use Rattle.refusals.specs.declared.Verdict.{Verdict}
 use Rattle.refusals.specs.declared.Verdict.the-variants.{Accepted}
 use Rattle.routes.specs.Sources.{recordAt, inUse, sourcesIn}
 use Rattle.routes.specs.declared.Sources.{Sources}
 use Rattle.routes.specs.Walk.{walked}
-use Rattle.routes.proofs.PlaceLaws.{place-key, of-route-in, of-route-out, none-behind}
-use Rattle.columns.specs.Words.{columns}
+use Rattle.routes.proofs.PlaceLaws.{place-key, of-route-out, none-behind}
 use Rattle.applying.specs.State.{notLess, notBefore, countBefore, held}
 use Rattle.applying.specs.Apply.{sameRoute, together, RouteStands}
 use Rattle.applying.proofs.PlacedLaws.{recordsOf}

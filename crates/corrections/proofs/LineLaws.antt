@@ -6,10 +6,10 @@ use mathlib.Core.List.{List}
 use Prim.Native.Nat.{ℕ, _+_, max}
 use native.Mathlib.Omega.{arith}
 use lib.Dec.{eqb}
-use lib.ListN.{length, drop}
+use lib.ListN.{length}
 use borrow.Author.Tests.{eq-eqb, ne-eqb}
 use Rattle.corrections.specs.declared.lines.Line.the-variants.{Heading, TakenOut, PutIn, Stopped}
-use Rattle.corrections.specs.Lines.{Form, heading, change, forms, reach, reachAt, whole, wholeAt, longest, lineOf, lineAt}
+use Rattle.corrections.specs.Lines.{Form, heading, change, forms, reachAt, whole, wholeAt, longest, lineOf, lineAt}
 
 module _ (f : Form) (i : ℕ) (log : List ℕ) {r w : ℕ} (e : r ≡ reachAt f i log) (q : w ≡ length f) where
   pub whole-is : eqb r w ≡ wholeAt f i log

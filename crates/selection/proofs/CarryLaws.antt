@@ -8,7 +8,6 @@ use native.Mathlib.Omega.{arith}
 use lib.Dec.{eqb}
 use lib.ListN.{length, replicate, getD-replicate}
 use lib.Seq.{take-all}
-use Rattle.slices.specs.Part.{padded}
 use Rattle.refusals.specs.declared.Refusal.{Refusal}
 use Rattle.refusals.specs.declared.Verdict.{Verdict}
 use Rattle.refusals.specs.declared.Verdict.the-variants.{Accepted, Refused}
@@ -28,30 +27,7 @@ use Rattle.applying.specs.Bounds.{ranOver, ranOverBy, ranAs}
 use Rattle.applying.specs.Correct.{Wrong, noMore, Outcome, stopped, reached, corrected}
 use Rattle.applying.specs.Run.{byCorrection, onward, ran, ranBy, marked}
 use Rattle.selection.specs.Reliance.{reliances, Taken}
-use Rattle.selection.specs.Pick.{
-  Reads,
-  Opens,
-  lengthStage,
-  ifAccepted,
-  opened,
-  wantedStage,
-  everything,
-  membersFrom,
-  membersAs,
-  Pick,
-  refusedBy,
-  picked,
-  judgedFirst,
-  ranFirst,
-  outcomeVerdict,
-  carried,
-  takenOf,
-  pickBy,
-  outcomeOf,
-  pickFrom,
-  pickOf,
-  pickedAs,
-}
+use Rattle.selection.specs.Pick.{Reads, Opens, lengthStage, ifAccepted, opened, wantedStage, everything, membersFrom, membersAs, refusedBy, picked, judgedFirst, ranFirst, outcomeVerdict, carried, takenOf, pickBy, outcomeOf, pickFrom, pickOf, pickedAs}
 use Rattle.selection.specs.Failing.{lineAt, failureWith, faultOf, failureAs, judgedThen, failureOf, settled, settledFrom, settledOf}
 use Rattle.selection.specs.Reasons.{reasonsBy, unlessStopped, reasonsFrom, reasonsOf, reasonsWith, reasonsAs}
 use Rattle.selection.specs.declared.Explained.{Explained}

@@ -16,10 +16,6 @@ use Rattle.applying.specs.Apply.{entryAt, entriesFrom, recordOfLine}
 
 -- ---- one line
 
--- each of some lines lies within the longest log
-abbrev pub AllWithin : List ℕ → Type 0
-AllWithin ats = (k : ℕ) → getD ats k 0 ≤ 60000
-
 module _ (frozen log : List ℕ) where
   -- the correction of the last of some lines that is on a route and before correction n; where there is none, what was found before
   unfoldable pub lastBefore : (n : ℕ) (key : List ℕ) (found : ℕ) → List Entry → ℕ

@@ -1,10 +1,10 @@
 // Corrections carried into a frozen file: a log checked, the corrections picked that are wanted and those that they rely on, why each of
 // them is taken, and the new file that they make. Assumes nothing of the caller: any frozen file, any log, any wanted numbers, any buffer.
 //
-// A pick goes over the log twice: once for its verdict, once with the corrections taken. For L lines and at most R records each pass makes
-// at most L times R comparisons of places, of routes, and of records with those before them, 25 to 53 bytes each, and judges L and R records
-// by themselves; what the lines rely on is L times L comparisons more, once. The reasons take one pass, and as many comparisons of two numbers
-// as lines times corrections taken (docs/PERFORMANCE.md).
+// A pick goes over the log twice: once for its verdict, once with the corrections taken, which need not be judged again. A line is searched by
+// halves, and a correction has the records of the routes that it names compared with those before them; what a line relies on is looked for
+// backward, up to the last earlier line on its route. The reasons take one pass, and as many comparisons of two numbers as lines times
+// corrections taken (docs/PERFORMANCE.md).
 mod carry;
 mod choosing;
 mod explaining;

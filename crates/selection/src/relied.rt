@@ -8,8 +8,8 @@ ghost use mathlib.Core.Path.{_≡_};
 ghost use mathlib.Core.List.{_++_};
 ghost use Prim.Native.Nat.{_-_, _≤_, _<_};
 ghost use lib.ListN.{length, replicate};
-ghost use Rattle.applying.specs.Apply.{Within};
-ghost use Rattle.selection.specs.Reliance.{AllWithin, ReliedOn, reliances, namedBy, NoneBefore, NoneBehind, Marked, Taken};
+ghost use Rattle.applying.specs.Apply.{Within, WithinLog};
+ghost use Rattle.selection.specs.Reliance.{ReliedOn, reliances, namedBy, NoneBefore, NoneBehind, Marked, Taken};
 use corrections::Index;
 use corrections::MOST_CHANGES;
 use corrections::MOST_CORRECTIONS;
@@ -32,7 +32,7 @@ fn relied_on<'a>(
     of: &[u32; MOST_CHANGES],
     k: usize,
 ) -> u32
-    requires { ⌜ (k < 444) × AllWithin (now ats) ⌝ }
+    requires { ⌜ (k < 444) × WithinLog (now ats) ⌝ }
     ensures { λ r. ⌜ ReliedOn (now (frozen .entry)) (now (log .entry)) (now (ats .entry)) (now (of .entry)) k r ⌝ }
 {
     let here = ats[k];

@@ -9,7 +9,6 @@ use Rattle.corrections.proofs.IndexLaws.{index, index-start, grown-by}
 use Rattle.corrections.proofs.Turns.{advances, Kept, kept-start, kept-room, kept-sum, kept-less, kept-next, too-long, reading, reading-start, reading-stop, reading-next, reading-end}
 use Rattle.corrections.proofs.index_of.Statement.{statement}
 use Rattle.corrections.proofs.index_of.Tie as tie
-use Rattle.refusals.proofs.Refusal.log_too_long.Reads as log-too-long-reads
 
 abbrev Inv-loop : tie.InvT-loop
 Inv-loop log frozen kind₀ starts₀ correction₀ begun₀ count₀ room₀ number₀ at₀ kind starts correction begun count room number at =

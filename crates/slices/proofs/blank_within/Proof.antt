@@ -1,6 +1,5 @@
 -- The invariant: what is left to look at decides the answer. Assumes nothing.
 use borrow.Author.Needs.{needs}
-use native.Mathlib.Omega.{arith}
 use mathlib.Core.Path.{_≡_, refl, sym, _∙_}
 use Prim.Native.Nat.{_≤_, _-_}
 use Rattle.slices.specs.Part.{part, blank}

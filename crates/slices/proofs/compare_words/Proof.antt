@@ -1,6 +1,6 @@
 -- The invariant: what is left to compare decides the answer. Assumes nothing.
 use borrow.Author.Needs.{needs}
-use mathlib.Core.Path.{_≡_, refl, sym, _∙_}
+use mathlib.Core.Path.{_≡_, sym, _∙_}
 use Prim.Native.Nat.{_≤_, _-_}
 use Rattle.slices.specs.Part.{part}
 use Rattle.slices.specs.Order.{order}

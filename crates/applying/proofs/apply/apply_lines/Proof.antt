@@ -2,7 +2,6 @@
 use Rattle.applying.proofs.RisingLaws.{line-in-order}
 use Rattle.applying.proofs.ApplyLaws.{gave-some, lines-done, lines-failed, lines-go-on, none-fails, fails-here, fails-later}
 use mathlib.Core.Path.{_≡_, refl, sym, _∙_}
-use mathlib.Core.List.{[]}
 use Prim.Native.Nat.{_-_}
 use lib.ListN.{length}
 use Rattle.routes.specs.Sources.{inUse}
@@ -13,9 +12,6 @@ use borrow.Author.Needs.{needs}
 use native.Mathlib.Omega.{arith}
 use Rattle.applying.proofs.apply.apply_lines.Statement.{statement}
 use Rattle.applying.proofs.apply.apply_lines.Tie as tie
-use Rattle.applying.proofs.apply.apply_lines.Reads as reads
-use Rattle.applying.proofs.apply.apply_lines.Lts as lts
-use Rattle.applying.proofs.apply.apply_line.Reads as apply-line-reads
 
 abbrev Inv-loop : tie.InvT-loop
 Inv-loop frozen log rising letters offsets from to at₀ count standing₀ k₀ at standing k = (length at ≡ length at₀) × Row standing at × InOrder frozen log rising (inUse (held standing at)) × ForLines letters offsets (λ index. (linesApplied frozen log (entriesFrom index from (to - from)) (inUse (held count at₀)) ≡ linesApplied frozen log (entriesFrom index k (to - k)) (inUse (held standing at))) × (failsAt frozen log (entriesFrom index from (to - from)) (inUse (held count at₀)) ≡ failsAt frozen log (entriesFrom index k (to - k)) (inUse (held standing at))))
@@ -23,31 +19,24 @@ Inv-loop frozen log rising letters offsets from to at₀ count standing₀ k₀ 
 abbrev μ-loop : tie.MeasureT-loop
 μ-loop frozen log rising letters offsets from to at₀ count standing₀ k₀ at standing k = to - k
 
--- src/apply.rt:63:5
 loop-holds : tie.Need-loop-holds Inv-loop μ-loop
 loop-holds c = (refl, c .before .before .before .before .before .pre .0, c .before .before .before .before .before .pre .4, λ owners. (refl, refl))
 
--- src/apply.rt:64:22
 shared-slice-read-letter : tie.Need-shared-slice-read-letter Inv-loop μ-loop
 shared-slice-read-letter c = omega (arith, c .before .loop-test .taken, c .before .before .before .before .before .before .before .before .pre .1, c .before .before .before .before .before .before .before .before .pre .3)
 
--- src/apply.rt:65:22
 mul-offset : tie.Need-mul-offset Inv-loop μ-loop
 mul-offset c = search needs
 
--- src/apply.rt:65:22
 shared-slice-read-offset : tie.Need-shared-slice-read-offset Inv-loop μ-loop
 shared-slice-read-offset c = omega (arith, c .before .before .loop-test .taken, c .before .before .before .before .before .before .before .before .before .pre .1, c .before .before .before .before .before .before .before .before .before .pre .2 .0)
 
--- src/apply.rt:66:13
 apply-line-requires : tie.Need-apply-line-requires Inv-loop μ-loop
 apply-line-requires c κs = (c .before .before .before .before .loop .inv .1, c .before .before .before .before .before .before .before .before .before .before .pre .2 .1 _, c .before .before .before .before .loop .inv .2)
 
--- src/apply.rt:68:13
 same-length : tie.Need-same-length Inv-loop μ-loop
 same-length c = search needs
 
--- src/apply.rt:68:13
 returns : tie.Need-returns Inv-loop μ-loop
 returns c = λ owners.
     let d = is-false _ (c .if1 .taken) in
@@ -55,15 +44,12 @@ returns c = λ owners.
     let g = c .before .before .before .before .apply-line .ensures _ in
     (lines-failed _ _ _ _ _ _ _ (inv .0) (c .before .before .before .before .before .before .before .before .loop-test .taken) _ _ g d, sym (inv .1 ∙ fails-here _ _ _ _ _ (c .before .before .before .before .before .before .before .before .loop-test .taken) _ _ _ g d))
 
--- src/apply.rt:74:9
 add-k : tie.Need-add-k Inv-loop μ-loop
 add-k c = search needs
 
--- src/apply.rt:63:5
 loop-less : tie.Need-loop-less Inv-loop μ-loop
 loop-less c = search needs
 
--- src/apply.rt:63:5
 loop-again : tie.Need-loop-again Inv-loop μ-loop
 loop-again c = let d = is-true _ (c .if1 .left) in
     let inv = c .before .before .before .before .before .before .before .before .before .loop .inv in
@@ -77,11 +63,9 @@ loop-again c = let d = is-true _ (c .if1 .left) in
           (on .1, inv .3 owners .1 ∙ fails-later _ _ _ _ _ (c .before .before .before .before .before .before .before .before .loop-test .taken) _ _ _ g d),
     )
 
--- src/apply.rt:45:1
 same-length-2 : tie.Need-same-length-2 Inv-loop μ-loop
 same-length-2 c = search needs
 
--- src/apply.rt:45:1
 returns-2 : tie.Need-returns-2 Inv-loop μ-loop
 returns-2 c = λ owners.
     let inv = c .before .loop .inv in

@@ -6,81 +6,57 @@ use Rattle.refusals.specs.declared.Verdict.the-variants.{Refused}
 use Rattle.slices.proofs.Cases.{is-false, is-true}
 use mathlib.Core.Path.{refl, ap}
 use mathlib.Core.List.{[]}
-use native.Mathlib.Omega.{arith}
 use borrow.Author.Needs.{needs}
 use Rattle.applying.proofs.correct.correct.Statement.{statement}
 use Rattle.applying.proofs.correct.correct.Tie as tie
-use Rattle.applying.proofs.correct.correct.Reads as reads
-use Rattle.applying.proofs.correct.correct.Lts as lts
-use Rattle.applying.proofs.apply.apply_lines.Reads as apply-lines-reads
-use Rattle.applying.proofs.faults.line_trouble.Reads as line-trouble-reads
-use Rattle.applying.proofs.judge.judge_touched.Reads as judge-touched-reads
-use Rattle.refusals.proofs.Refusal.does_not_apply.Reads as does-not-apply-reads
-use Rattle.refusals.proofs.Refusal.route_refused.Reads as route-refused-reads
 
--- src/correct.rt:49:9
 apply-lines-requires : tie.Need-apply-lines-requires
 apply-lines-requires c κs = search needs
 
--- src/correct.rt:62:13
 line-trouble-requires : tie.Need-line-trouble-requires
 line-trouble-requires c κs = search needs
 
--- src/correct.rt:64:39
 does-not-apply-requires : tie.Need-does-not-apply-requires
 does-not-apply-requires c κs = search needs
 
--- src/correct.rt:63:9
 same-length : tie.Need-same-length
 same-length c = search needs
 
--- src/correct.rt:63:9
 returns : tie.Need-returns
 returns c = λ owners. not-applied _ _ _ _ _ _ _ _ (c .before .before .before .before .before .before .before .apply-lines .ensures owners) _ (is-false _ (c .before .before .if1 .taken)) (ap Refused (c .does-not-apply .ensures)) (c .before .line-trouble .ensures)
 
--- src/correct.rt:70:9
 line-trouble-requires-2 : tie.Need-line-trouble-requires-2
 line-trouble-requires-2 c κs = search needs
 
--- src/correct.rt:72:9
 same-length-2 : tie.Need-same-length-2
 same-length-2 c = search needs
 
--- src/correct.rt:72:9
 returns-2 : tie.Need-returns-2
 returns-2 c = λ owners. left-unjudged _ _ _ _ _ _ _ _ (c .before .before .before .before .before .before .before .before .apply-lines .ensures owners) _ (is-true _ (c .before .before .before .if1 .left)) (is-false _ (c .if2 .taken)) refl refl
 
--- src/correct.rt:78:9
 judge-touched-requires : tie.Need-judge-touched-requires
 judge-touched-requires c κs = let pre = c .before .before .before .before .before .before .before .before .before .before .before .before .before .before .before .before .before .pre in
     let s = gave-some _ _ _ (c .before .before .before .before .before .before .before .before .before .apply-lines .ensures [] .0) (is-true _ (c .before .before .before .before .if1 .left)) in
     ((s .1, search needs), pre .1, pre .2, lines-in-order _ _ _ _ _ _ (s .0) (pre .4), pre .5)
 
--- src/correct.rt:93:26
 enum-told : tie.Need-enum-told
 enum-told c = search needs
 
--- src/correct.rt:98:26
 enum-known-verdict : tie.Need-enum-known-verdict
 enum-known-verdict c = search needs
 
--- src/correct.rt:106:43
 route-refused-requires : tie.Need-route-refused-requires
 route-refused-requires c κs = search needs
 
--- src/correct.rt:32:1
 same-length-3 : tie.Need-same-length-3
 same-length-3 c = search needs
 
--- src/correct.rt:32:1
 returns-3 : tie.Need-returns-3
 returns-3 c = λ owners. correction-stands _ _ _ _ _ _ _ _ (c .before .before .before .before .before .before .before .before .before .before .before .before .apply-lines .ensures owners) _ (is-true _ (c .before .before .before .before .before .before .before .if1 .left)) (is-true _ (c .before .before .before .before .if2 .left)) _ (c .before .before .judge-touched .ensures _ owners) (c .enum-told .given .1) refl refl
 
--- src/correct.rt:32:1
 same-length-4 : tie.Need-same-length-4
 same-length-4 c = search needs
 
--- src/correct.rt:32:1
 returns-4 : tie.Need-returns-4
 returns-4 c = λ owners. route-is-refused _ _ _ _ _ _ _ _ (c .before .before .before .before .before .before .before .before .before .before .before .before .before .before .apply-lines .ensures owners) _ (is-true _ (c .before .before .before .before .before .before .before .before .before .if1 .left)) (is-true _ (c .before .before .before .before .before .before .if2 .left)) _ (c .before .before .before .before .judge-touched .ensures _ owners) (c .before .before .verdict .given .1) (ap Refused (c .route-refused .ensures)) refl
 

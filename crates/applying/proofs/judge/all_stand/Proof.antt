@@ -5,17 +5,14 @@ use Rattle.applying.specs.Apply.{RouteStands, inRows}
 use Rattle.applying.specs.State.{held}
 use Rattle.routes.specs.Sources.{logSource, inUse}
 use lib.ListN.{getD}
-use Prim.Native.Nat.{ℕ, _+_, _-_, _≤_, _<_}
+use Prim.Native.Nat.{ℕ, _-_, _≤_, _<_}
 use mathlib.Core.Bool.{false≢true}
-use Rattle.slices.proofs.Cases.{is-false, is-true}
+use Rattle.slices.proofs.Cases.{is-true}
 use denote.Ref.{now}
 use borrow.Author.Needs.{needs}
 use native.Mathlib.Omega.{arith}
 use Rattle.applying.proofs.judge.all_stand.Statement.{statement}
 use Rattle.applying.proofs.judge.all_stand.Tie as tie
-use Rattle.applying.proofs.judge.all_stand.Reads as reads
-use Rattle.applying.proofs.judge.all_stand.Lts as lts
-use Rattle.applying.proofs.judge.line_stands.Reads as line-stands-reads
 
 abbrev Inv-loop : tie.InvT-loop
 Inv-loop frozen log known offsets from to at count k₀ k = (from ≤ k) × ((j : ℕ) → from ≤ j → j < k → RouteStands frozen log (inUse (held count at)) (logSource (getD offsets j 0)))
@@ -23,27 +20,21 @@ Inv-loop frozen log known offsets from to at count k₀ k = (from ≤ k) × ((j 
 abbrev μ-loop : tie.MeasureT-loop
 μ-loop frozen log known offsets from to at count k₀ k = to - k
 
--- src/judge.rt:223:5
 loop-holds : tie.Need-loop-holds Inv-loop μ-loop
 loop-holds c = (omega arith, λ j a b. absurd (omega arith))
 
--- src/judge.rt:224:13
 line-stands-requires : tie.Need-line-stands-requires Inv-loop μ-loop
 line-stands-requires c κs = search needs
 
--- src/judge.rt:225:13
 returns : tie.Need-returns Inv-loop μ-loop
 returns c = λ t. absurd (false≢true t)
 
--- src/judge.rt:227:9
 add-k : tie.Need-add-k Inv-loop μ-loop
 add-k c = search needs
 
--- src/judge.rt:223:5
 loop-less : tie.Need-loop-less Inv-loop μ-loop
 loop-less c = search needs
 
--- src/judge.rt:223:5
 loop-again : tie.Need-loop-again Inv-loop μ-loop
 loop-again c = let inv = c .before .before .before .loop .inv in (
   omega (arith, inv .0),
@@ -51,7 +42,6 @@ loop-again c = let inv = c .before .before .before .loop .inv in (
       (c .before .line-stands .ensures (is-true _ (c .if1 .left)) (λ h. inv .1 _ (omega arith) (omega arith))),
 )
 
--- src/judge.rt:208:1
 returns-2 : tie.Need-returns-2 Inv-loop μ-loop
 returns-2 c = λ t letters owners.
     let inv = c .before .loop .inv in

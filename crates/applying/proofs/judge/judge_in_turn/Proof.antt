@@ -13,11 +13,6 @@ use borrow.Author.Needs.{needs}
 use native.Mathlib.Omega.{arith}
 use Rattle.applying.proofs.judge.judge_in_turn.Statement.{statement}
 use Rattle.applying.proofs.judge.judge_in_turn.Tie as tie
-use Rattle.applying.proofs.judge.judge_in_turn.Reads as reads
-use Rattle.applying.proofs.judge.judge_in_turn.Lts as lts
-use Rattle.applying.proofs.judge.judge_route.Reads as judge-route-reads
-use Rattle.applying.proofs.judge.route_end.Reads as route-end-reads
-use Rattle.applying.proofs.judge.touches.Reads as touches-reads
 
 abbrev Inv-loop : tie.InvT-loop
 Inv-loop frozen log known offsets from to at count i₀ i = (i ≤ count) × ForOffsets offsets (λ index. judgedFrom frozen log (entriesFrom index from (to - from)) 0 (inUse (held count at)) ≡ judgedFrom frozen log (entriesFrom index from (to - from)) 0 (drop i (inUse (held count at))))
@@ -25,31 +20,24 @@ Inv-loop frozen log known offsets from to at count i₀ i = (i ≤ count) × For
 abbrev μ-loop : tie.MeasureT-loop
 μ-loop frozen log known offsets from to at count i₀ i = count - i
 
--- src/judge.rt:115:5
 loop-holds : tie.Need-loop-holds Inv-loop μ-loop
 loop-holds c = (omega arith, λ letters owners. refl)
 
--- src/judge.rt:116:22
 mul-source : tie.Need-mul-source Inv-loop μ-loop
 mul-source c = search needs
 
--- src/judge.rt:116:22
 shared-slice-read-source : tie.Need-shared-slice-read-source Inv-loop μ-loop
 shared-slice-read-source c = omega (arith, c .before .loop-test .taken, c .before .before .before .before .before .before .before .before .pre .0)
 
--- src/judge.rt:117:53
 add-route-end : tie.Need-add-route-end Inv-loop μ-loop
 add-route-end c = search needs
 
--- src/judge.rt:117:13
 route-end-requires : tie.Need-route-end-requires Inv-loop μ-loop
 route-end-requires c κs = (omega (arith, c .before .loop-test .taken), c .before .before .before .before .before .before .before .before .pre .0)
 
--- src/judge.rt:118:12
 touches-requires : tie.Need-touches-requires Inv-loop μ-loop
 touches-requires c κs = search needs
 
--- src/judge.rt:119:17
 judge-route-requires : tie.Need-judge-route-requires Inv-loop μ-loop
 judge-route-requires c κs = let w = end-within _ _ [] (held (c .before .before .before .before .before .before .before .before .before .before .before .args .count) (now (c .before .before .before .before .before .before .before .before .before .before .before .args .at))) (c .before .before .before .before .before .before .before .before .before .before .before .pre .0 .0) (c .before .before .before .before .before .before .before .before .before .before .before .pre .0 .1) _ (c .before .before .before .before .loop-test .taken) (c .before .before .route-end .ensures) in
     (omega (arith, w .0), omega (arith, w .1, c .before .before .before .before .before .before .before .before .before .before .before .pre .0 .0), c .before .before .before .before .before .before .before .before .before .before .before .pre .0 .1, c .before .before .before .before .before .before .before .before .before .before .before .pre .3)
@@ -57,11 +45,9 @@ judge-route-requires c κs = let w = end-within _ _ [] (held (c .before .before 
 enum-told : tie.Need-enum-told Inv-loop μ-loop
 enum-told c = search needs
 
--- src/judge.rt:122:34
 enum-known-verdict : tie.Need-enum-known-verdict Inv-loop μ-loop
 enum-known-verdict c = search needs
 
--- src/judge.rt:123:21
 returns : tie.Need-returns Inv-loop μ-loop
 returns c = λ letters owners.
     let st = held (c .before .before .before .before .before .before .before .before .before .before .before .before .before .before .before .args .count) (now (c .before .before .before .before .before .before .before .before .before .before .before .before .before .before .before .args .at)) in
@@ -69,27 +55,22 @@ returns c = λ letters owners.
     let e = c .before .before .before .before .before .before .before .before .before .loop .inv .1 letters owners ∙ route-refused _ _ _ st (c .before .before .before .before .before .before .before .before .before .before .before .before .before .before .before .pre .0 .0) (c .before .before .before .before .before .before .before .before .before .before .before .before .before .before .before .pre .0 .1) _ (c .before .before .before .before .before .before .before .before .loop-test .taken) (c .before .before .before .before .before .before .route-end .ensures) (c .before .before .before .before .before .touches .ensures letters owners) (c .before .before .before .before .if1 .taken) (route-walked _ _ st (c .before .before .before .before .before .before .before .before .before .before .before .before .before .before .before .pre .0 .0) _ _ (w .1) (c .before .before .before .judge-route .ensures)) (c .before .verdict .given .1) in
     (sym (ap (λ (p : Verdict × List ℕ). p .0) e), sym (ap (λ (p : Verdict × List ℕ). p .1) e), omega (arith, w .0), w .1)
 
--- src/judge.rt:115:5
 loop-less : tie.Need-loop-less Inv-loop μ-loop
 loop-less c = let w = end-within _ _ [] (held (c .before .before .before .before .before .before .before .before .before .before .before .before .before .before .args .count) (now (c .before .before .before .before .before .before .before .before .before .before .before .before .before .before .args .at))) (c .before .before .before .before .before .before .before .before .before .before .before .before .before .before .pre .0 .0) (c .before .before .before .before .before .before .before .before .before .before .before .before .before .before .pre .0 .1) _ (c .before .before .before .before .before .before .before .loop-test .taken) (c .before .before .before .before .before .route-end .ensures) in omega (arith, w .0, w .1)
 
--- src/judge.rt:115:5
 loop-again : tie.Need-loop-again Inv-loop μ-loop
 loop-again c = let st = held (c .before .before .before .before .before .before .before .before .before .before .before .before .before .before .args .count) (now (c .before .before .before .before .before .before .before .before .before .before .before .before .before .before .args .at)) in
     let w = end-within _ _ [] st (c .before .before .before .before .before .before .before .before .before .before .before .before .before .before .pre .0 .0) (c .before .before .before .before .before .before .before .before .before .before .before .before .before .before .pre .0 .1) _ (c .before .before .before .before .before .before .before .loop-test .taken) (c .before .before .before .before .before .route-end .ensures) in
     (w .1, λ letters owners. c .before .before .before .before .before .before .before .before .loop .inv .1 letters owners ∙ route-stands _ _ _ st (c .before .before .before .before .before .before .before .before .before .before .before .before .before .before .pre .0 .0) (c .before .before .before .before .before .before .before .before .before .before .before .before .before .before .pre .0 .1) _ (c .before .before .before .before .before .before .before .loop-test .taken) (c .before .before .before .before .before .route-end .ensures) (c .before .before .before .before .touches .ensures letters owners) (c .before .before .before .if1 .taken) (route-walked _ _ st (c .before .before .before .before .before .before .before .before .before .before .before .before .before .before .pre .0 .0) _ _ (w .1) (c .before .before .judge-route .ensures)) (c .enum-told .given .1))
 
--- src/judge.rt:115:5
 loop-less-2 : tie.Need-loop-less-2 Inv-loop μ-loop
 loop-less-2 c = let w = end-within _ _ [] (held (c .before .before .before .before .before .before .before .before .before .before .before .args .count) (now (c .before .before .before .before .before .before .before .before .before .before .before .args .at))) (c .before .before .before .before .before .before .before .before .before .before .before .pre .0 .0) (c .before .before .before .before .before .before .before .before .before .before .before .pre .0 .1) _ (c .before .before .before .before .loop-test .taken) (c .before .before .route-end .ensures) in omega (arith, w .0, w .1)
 
--- src/judge.rt:115:5
 loop-again-2 : tie.Need-loop-again-2 Inv-loop μ-loop
 loop-again-2 c = let st = held (c .before .before .before .before .before .before .before .before .before .before .before .args .count) (now (c .before .before .before .before .before .before .before .before .before .before .before .args .at)) in
     let w = end-within _ _ [] st (c .before .before .before .before .before .before .before .before .before .before .before .pre .0 .0) (c .before .before .before .before .before .before .before .before .before .before .before .pre .0 .1) _ (c .before .before .before .before .loop-test .taken) (c .before .before .route-end .ensures) in
     (w .1, λ letters owners. c .before .before .before .before .before .loop .inv .1 letters owners ∙ route-untouched _ _ _ st (c .before .before .before .before .before .before .before .before .before .before .before .pre .0 .0) (c .before .before .before .before .before .before .before .before .before .before .before .pre .0 .1) _ (c .before .before .before .before .loop-test .taken) (c .before .before .route-end .ensures) (c .before .touches .ensures letters owners) (c .if1 .left))
 
--- src/judge.rt:100:1
 returns-2 : tie.Need-returns-2 Inv-loop μ-loop
 returns-2 c = λ letters owners.
     let e = c .before .loop .inv .1 letters owners ∙ routes-end _ _ _ (held (c .before .before .before .before .before .before .before .args .count) (now (c .before .before .before .before .before .before .before .args .at))) (c .before .before .before .before .before .before .before .pre .0 .0) (c .before .before .before .before .before .before .before .pre .0 .1) _ (c .loop-test .left) in

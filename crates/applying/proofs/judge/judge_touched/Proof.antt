@@ -5,26 +5,18 @@ use native.Mathlib.Omega.{arith}
 use borrow.Author.Needs.{needs}
 use Rattle.applying.proofs.judge.judge_touched.Statement.{statement}
 use Rattle.applying.proofs.judge.judge_touched.Tie as tie
-use Rattle.applying.proofs.judge.judge_touched.Reads as reads
-use Rattle.applying.proofs.judge.judge_touched.Lts as lts
-use Rattle.applying.proofs.judge.all_stand.Reads as all-stand-reads
-use Rattle.applying.proofs.judge.judge_in_turn.Reads as judge-in-turn-reads
 
--- src/judge.rt:249:12
 all-stand-requires : tie.Need-all-stand-requires
 all-stand-requires c κs = let pre = c .before .before .before .before .before .before .pre in (pre .0, pre .1, pre .2, pre .3 (c .if1 .taken), pre .4)
 
--- src/judge.rt:250:13
 returns : tie.Need-returns
 returns c = λ letters owners.
     let e = c .before .all-stand .ensures (c .if2 .taken) letters owners in
     (sym e, sym (none-refused _ _ _ _ _ e), omega arith, omega arith)
 
--- src/judge.rt:257:5
 judge-in-turn-requires : tie.Need-judge-in-turn-requires
 judge-in-turn-requires c κs = search needs
 
--- src/judge.rt:233:1
 returns-2 : tie.Need-returns-2
 returns-2 c = search needs
 

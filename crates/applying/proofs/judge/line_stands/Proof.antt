@@ -11,41 +11,28 @@ use native.Mathlib.Omega.{arith}
 use borrow.Author.Needs.{needs}
 use Rattle.applying.proofs.judge.line_stands.Statement.{statement}
 use Rattle.applying.proofs.judge.line_stands.Tie as tie
-use Rattle.applying.proofs.judge.line_stands.Reads as reads
-use Rattle.applying.proofs.judge.line_stands.Lts as lts
-use Rattle.applying.proofs.judge.named_before.Reads as named-before-reads
-use Rattle.applying.proofs.judge.route_stands.Reads as route-stands-reads
-use Rattle.routes.proofs.log_source.Reads as log-source-reads
 
--- src/judge.rt:200:8
 named-before-requires : tie.Need-named-before-requires
 named-before-requires c κs = search needs
 
--- src/judge.rt:201:9
 returns : tie.Need-returns
 returns c = λ t before. let w = c .before .named-before .ensures (c .if1 .taken) in same-stands (now (c .before .before .before .before .before .before .before .args .frozen)) (now (c .before .before .before .before .before .before .before .args .log)) (inUse (held (c .before .before .before .before .before .before .before .args .count) (now (c .before .before .before .before .before .before .before .args .at)))) (logSource (getD (now (c .before .before .before .before .before .before .before .args .offsets)) (c .before .before .before .before .before .before .before .args .k - 1) 0)) (logSource (getD (now (c .before .before .before .before .before .before .before .args .offsets)) (c .before .before .before .before .before .before .before .args .k) 0)) (w .1) (before (w .0))
 
--- src/judge.rt:203:18
 mul-offset : tie.Need-mul-offset
 mul-offset c = search needs
 
--- src/judge.rt:203:18
 shared-slice-read-offset : tie.Need-shared-slice-read-offset
 shared-slice-read-offset c = omega (arith, c .before .before .before .before .before .before .before .before .pre .1, c .before .before .before .before .before .before .before .before .pre .2 .0)
 
--- src/judge.rt:204:60
 cast-log-source : tie.Need-cast-log-source
 cast-log-source c = omega (arith, c .before .before .before .before .before .before .before .before .pre .2 .1 (c .before .before .before .before .before .before .before .before .args .k))
 
--- src/judge.rt:204:49
 log-source-requires : tie.Need-log-source-requires
 log-source-requires c κs = search needs
 
--- src/judge.rt:204:5
 route-stands-requires : tie.Need-route-stands-requires
 route-stands-requires c κs = search needs
 
--- src/judge.rt:186:1
 returns-2 : tie.Need-returns-2
 returns-2 c = λ t before. subst (RouteStands (now (c .before .before .before .before .before .before .before .before .before .before .args .frozen)) (now (c .before .before .before .before .before .before .before .before .before .before .args .log)) (inUse (held (c .before .before .before .before .before .before .before .before .before .before .args .count) (now (c .before .before .before .before .before .before .before .before .before .before .args .at))))) (c .before .log-source .ensures) (c .route-stands .ensures t)
 

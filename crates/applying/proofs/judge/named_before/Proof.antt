@@ -7,56 +7,40 @@ use native.Mathlib.Omega.{arith}
 use borrow.Author.Needs.{needs}
 use Rattle.applying.proofs.judge.named_before.Statement.{statement}
 use Rattle.applying.proofs.judge.named_before.Tie as tie
-use Rattle.applying.proofs.judge.named_before.Reads as reads
-use Rattle.applying.proofs.judge.named_before.Lts as lts
-use Rattle.applying.proofs.same_route.Reads as same-route-reads
-use Rattle.routes.proofs.log_source.Reads as log-source-reads
 
--- src/judge.rt:173:9
 returns : tie.Need-returns
 returns c = λ t. absurd (false≢true t)
 
--- src/judge.rt:175:26
 sub-before : tie.Need-sub-before
 sub-before c = search needs
 
--- src/judge.rt:175:18
 mul-before : tie.Need-mul-before
 mul-before c = search needs
 
--- src/judge.rt:175:18
 shared-slice-read-before : tie.Need-shared-slice-read-before
 shared-slice-read-before c = search needs
 
--- src/judge.rt:176:18
 mul-offset : tie.Need-mul-offset
 mul-offset c = search needs
 
--- src/judge.rt:176:18
 shared-slice-read-offset : tie.Need-shared-slice-read-offset
 shared-slice-read-offset c = search needs
 
--- src/judge.rt:180:20
 cast-log-source : tie.Need-cast-log-source
 cast-log-source c = omega (arith, c .before .before .before .before .before .before .pre .1 .1 (c .before .before .before .before .before .before .args .k - 1))
 
--- src/judge.rt:180:9
 log-source-requires : tie.Need-log-source-requires
 log-source-requires c κs = search needs
 
--- src/judge.rt:181:20
 cast-log-source-2 : tie.Need-cast-log-source-2
 cast-log-source-2 c = omega (arith, c .before .before .before .before .before .before .before .pre .1 .1 (c .before .before .before .before .before .before .before .args .k))
 
--- src/judge.rt:181:9
 log-source-requires-2 : tie.Need-log-source-requires-2
 log-source-requires-2 c κs = search needs
 
--- src/judge.rt:177:5
 same-route-requires : tie.Need-same-route-requires
 same-route-requires c κs = search needs
 
--- src/judge.rt:168:1
 returns-2 : tie.Need-returns-2
 returns-2 c = λ t. (c .before .before .before .before .before .if1 .left, sym (ap₂ (sameRoute _ _) (c .before .before .log-source .ensures) (c .before .log-source2 .ensures)) ∙ sym (c .same-route .ensures) ∙ t)
 

@@ -12,9 +12,6 @@ use borrow.Author.Needs.{needs}
 use native.Mathlib.Omega.{arith}
 use Rattle.applying.proofs.judge.route_end.Statement.{statement}
 use Rattle.applying.proofs.judge.route_end.Tie as tie
-use Rattle.applying.proofs.judge.route_end.Reads as reads
-use Rattle.applying.proofs.judge.route_end.Lts as lts
-use Rattle.applying.proofs.same_route.Reads as same-route-reads
 
 abbrev Inv-loop : tie.InvT-loop
 Inv-loop frozen log at count i source k₀ k = (k ≤ count) × (i + together frozen log source (drop i (inUse (held count at))) ≡ k + together frozen log source (drop k (inUse (held count at))))
@@ -22,41 +19,32 @@ Inv-loop frozen log at count i source k₀ k = (k ≤ count) × (i + together fr
 abbrev μ-loop : tie.MeasureT-loop
 μ-loop frozen log at count i source k₀ k = count - k
 
--- src/judge.rt:66:5
 loop-holds : tie.Need-loop-holds Inv-loop μ-loop
 loop-holds c = (c .before .before .before .pre .0, refl)
 
--- src/judge.rt:67:20
 mul-next : tie.Need-mul-next Inv-loop μ-loop
 mul-next c = search needs
 
--- src/judge.rt:67:20
 shared-slice-read-next : tie.Need-shared-slice-read-next Inv-loop μ-loop
 shared-slice-read-next c = search needs
 
--- src/judge.rt:68:13
 same-route-requires : tie.Need-same-route-requires Inv-loop μ-loop
 same-route-requires c κs = search needs
 
--- src/judge.rt:69:13
 returns : tie.Need-returns Inv-loop μ-loop
 returns c = let stop = together-stop _ _ (held (c .before .before .before .before .before .before .before .before .args .count) (now (c .before .before .before .before .before .before .before .before .args .at))) (c .before .before .before .before .before .before .before .before .pre .1 .0) (c .before .before .before .before .before .before .before .before .pre .1 .1) _ _ (c .before .before .before .loop-test .taken) (c .before .same-route .ensures) (is-false _ (c .if1 .taken)) in
     omega (arith, c .before .before .before .before .loop .inv .1, stop)
 
--- src/judge.rt:71:9
 add-k : tie.Need-add-k Inv-loop μ-loop
 add-k c = search needs
 
--- src/judge.rt:66:5
 loop-less : tie.Need-loop-less Inv-loop μ-loop
 loop-less c = search needs
 
--- src/judge.rt:66:5
 loop-again : tie.Need-loop-again Inv-loop μ-loop
 loop-again c = let next = together-next _ _ (held (c .before .before .before .before .before .before .before .before .args .count) (now (c .before .before .before .before .before .before .before .before .args .at))) (c .before .before .before .before .before .before .before .before .pre .1 .0) (c .before .before .before .before .before .before .before .before .pre .1 .1) _ _ (c .before .before .before .loop-test .taken) (c .before .same-route .ensures) (is-true _ (c .if1 .left)) in
     (omega (arith, c .before .before .before .loop-test .taken), omega (arith, c .before .before .before .before .loop .inv .1, next))
 
--- src/judge.rt:54:1
 returns-2 : tie.Need-returns-2 Inv-loop μ-loop
 returns-2 c = together-end _ _ (held (c .before .before .before .before .before .args .count) (now (c .before .before .before .before .before .args .at))) (c .before .before .before .before .before .pre .1 .0) (c .before .before .before .before .before .pre .1 .1) _ _ (c .before .loop .inv .1) (c .loop-test .left)
 

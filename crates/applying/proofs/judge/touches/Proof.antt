@@ -7,10 +7,6 @@ use borrow.Author.Needs.{needs}
 use native.Mathlib.Omega.{arith}
 use Rattle.applying.proofs.judge.touches.Statement.{statement}
 use Rattle.applying.proofs.judge.touches.Tie as tie
-use Rattle.applying.proofs.judge.touches.Reads as reads
-use Rattle.applying.proofs.judge.touches.Lts as lts
-use Rattle.applying.proofs.same_route.Reads as same-route-reads
-use Rattle.routes.proofs.log_source.Reads as log-source-reads
 
 abbrev Inv-loop : tie.InvT-loop
 Inv-loop frozen log offsets from to source k₀ k = ForOffsets offsets (λ index. touched frozen log (entriesFrom index from (to - from)) source ≡ touched frozen log (entriesFrom index k (to - k)) source)
@@ -18,47 +14,36 @@ Inv-loop frozen log offsets from to source k₀ k = ForOffsets offsets (λ index
 abbrev μ-loop : tie.MeasureT-loop
 μ-loop frozen log offsets from to source k₀ k = to - k
 
--- src/judge.rt:43:5
 loop-holds : tie.Need-loop-holds Inv-loop μ-loop
 loop-holds c = λ letters owners. refl
 
--- src/judge.rt:44:22
 mul-offset : tie.Need-mul-offset Inv-loop μ-loop
 mul-offset c = search needs
 
--- src/judge.rt:44:22
 shared-slice-read-offset : tie.Need-shared-slice-read-offset Inv-loop μ-loop
 shared-slice-read-offset c = search needs
 
--- src/judge.rt:45:47
 cast-log-source : tie.Need-cast-log-source Inv-loop μ-loop
 cast-log-source c = omega (arith, c .before .before .before .before .before .before .pre .1 .1 (c .before .before .loop .k))
 
--- src/judge.rt:45:36
 log-source-requires : tie.Need-log-source-requires Inv-loop μ-loop
 log-source-requires c κs = search needs
 
--- src/judge.rt:45:12
 same-route-requires : tie.Need-same-route-requires Inv-loop μ-loop
 same-route-requires c κs = search needs
 
--- src/judge.rt:46:13
 returns : tie.Need-returns Inv-loop μ-loop
 returns c = λ letters owners. sym (c .before .before .before .before .before .loop .inv letters owners ∙ touched-found _ _ _ _ _ _ (c .before .before .before .before .loop-test .taken) (c .before .before .log-source .ensures) (c .before .same-route .ensures) (c .if1 .taken))
 
--- src/judge.rt:48:9
 add-k : tie.Need-add-k Inv-loop μ-loop
 add-k c = search needs
 
--- src/judge.rt:43:5
 loop-less : tie.Need-loop-less Inv-loop μ-loop
 loop-less c = search needs
 
--- src/judge.rt:43:5
 loop-again : tie.Need-loop-again Inv-loop μ-loop
 loop-again c = λ letters owners. c .before .before .before .before .before .loop .inv letters owners ∙ touched-next _ _ _ _ _ _ (c .before .before .before .before .loop-test .taken) (c .before .before .log-source .ensures) (c .before .same-route .ensures) (c .if1 .left)
 
--- src/judge.rt:31:1
 returns-2 : tie.Need-returns-2 Inv-loop μ-loop
 returns-2 c = λ letters owners. sym (c .before .loop .inv letters owners ∙ touched-end _ _ _ _ _ _ (c .loop-test .left))
 

@@ -1,32 +1,22 @@
 -- A law for each answer of the mark. Assumes nothing.
 use Rattle.applying.proofs.RunLaws.{when-marked, when-not}
 use mathlib.Core.Path.{refl}
-use native.Mathlib.Omega.{arith}
 use borrow.Author.Needs.{needs}
 use Rattle.applying.proofs.series.correct_if.Statement.{statement}
 use Rattle.applying.proofs.series.correct_if.Tie as tie
-use Rattle.applying.proofs.series.correct_if.Reads as reads
-use Rattle.applying.proofs.series.correct_if.Lts as lts
-use Rattle.applying.proofs.correct.correct.Reads as correct-reads
-use Rattle.applying.proofs.faults.line_trouble.Reads as line-trouble-reads
 
--- src/series.rt:56:9
 correct-requires : tie.Need-correct-requires
 correct-requires c κs = search needs
 
--- src/series.rt:56:9
 same-length : tie.Need-same-length
 same-length c = search needs
 
--- src/series.rt:56:9
 returns : tie.Need-returns
 returns c = λ owners. when-marked _ _ _ _ _ (c .before .before .before .before .if1 .taken) (c .before .before .correct .ensures owners)
 
--- src/series.rt:70:9
 line-trouble-requires : tie.Need-line-trouble-requires
 line-trouble-requires c κs = search needs
 
--- src/series.rt:37:1
 returns-2 : tie.Need-returns-2
 returns-2 c = λ owners. when-not _ _ _ _ _ (c .before .if1 .left) refl refl (c .before .before .before .before .before .before .before .before .pre .0 .0)
 

@@ -8,8 +8,6 @@ use borrow.Author.Needs.{needs}
 use native.Mathlib.Omega.{arith}
 use Rattle.applying.proofs.series.lines_end.Statement.{statement}
 use Rattle.applying.proofs.series.lines_end.Tie as tie
-use Rattle.applying.proofs.series.lines_end.Reads as reads
-use Rattle.applying.proofs.series.lines_end.Lts as lts
 
 abbrev Inv-loop : tie.InvT-loop
 Inv-loop owners count from n k₀ k = (k ≤ count) × ForOwners owners (λ index. from + leadingLines n (entriesFrom index from (count - from)) ≡ k + leadingLines n (entriesFrom index k (count - k)))
@@ -17,39 +15,30 @@ Inv-loop owners count from n k₀ k = (k ≤ count) × ForOwners owners (λ inde
 abbrev μ-loop : tie.MeasureT-loop
 μ-loop owners count from n k₀ k = count - k
 
--- src/series.rt:26:5
 loop-holds : tie.Need-loop-holds Inv-loop μ-loop
 loop-holds c = (c .pre .1, λ letters offsets. refl)
 
--- src/series.rt:27:21
 mul-owner : tie.Need-mul-owner Inv-loop μ-loop
 mul-owner c = search needs
 
--- src/series.rt:27:21
 shared-slice-read-owner : tie.Need-shared-slice-read-owner Inv-loop μ-loop
 shared-slice-read-owner c = search needs
 
--- src/series.rt:27:21
 cast-owner : tie.Need-cast-owner Inv-loop μ-loop
 cast-owner c = omega (arith, c .shared-slice-known .given (c .before .before .loop .k))
 
--- src/series.rt:29:13
 returns : tie.Need-returns Inv-loop μ-loop
 returns c = let inv = c .before .before .before .loop .inv in (λ letters offsets. leading-stop _ _ _ _ (inv .1 letters offsets) (c .before .before .loop-test .taken) (c .if1 .taken), inv .0)
 
--- src/series.rt:31:9
 add-k : tie.Need-add-k Inv-loop μ-loop
 add-k c = search needs
 
--- src/series.rt:26:5
 loop-less : tie.Need-loop-less Inv-loop μ-loop
 loop-less c = search needs
 
--- src/series.rt:26:5
 loop-again : tie.Need-loop-again Inv-loop μ-loop
 loop-again c = let inv = c .before .before .before .loop .inv in (omega (arith, c .before .before .loop-test .taken), λ letters offsets. leading-next _ _ _ _ (inv .1 letters offsets) (c .before .before .loop-test .taken) (c .if1 .left))
 
--- src/series.rt:21:1
 returns-2 : tie.Need-returns-2 Inv-loop μ-loop
 returns-2 c = let inv = c .before .loop .inv in (λ letters offsets. leading-end _ _ _ _ (inv .1 letters offsets) (c .loop-test .left), inv .0)
 

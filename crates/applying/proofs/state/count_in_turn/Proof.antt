@@ -6,10 +6,6 @@ use borrow.Author.Needs.{needs}
 use native.Mathlib.Omega.{arith}
 use Rattle.applying.proofs.state.count_in_turn.Statement.{statement}
 use Rattle.applying.proofs.state.count_in_turn.Tie as tie
-use Rattle.applying.proofs.state.count_in_turn.Reads as reads
-use Rattle.applying.proofs.state.count_in_turn.Lts as lts
-use Rattle.applying.proofs.state.reaches.Reads as reaches-reads
-use Rattle.routes.proofs.record_at.Reads as record-at-reads
 
 abbrev Inv-loop : tie.InvT-loop
 Inv-loop frozen log at count rec i₀ i = (i ≤ count) × Searched (held count at) frozen log rec i
@@ -17,43 +13,33 @@ Inv-loop frozen log at count rec i₀ i = (i ≤ count) × Searched (held count 
 abbrev μ-loop : tie.MeasureT-loop
 μ-loop frozen log at count rec i₀ i = count - i
 
--- src/state.rt:111:5
 loop-holds : tie.Need-loop-holds Inv-loop μ-loop
 loop-holds c = (omega arith, search-starts _ _ _ _)
 
--- src/state.rt:112:22
 mul-source : tie.Need-mul-source Inv-loop μ-loop
 mul-source c = search needs
 
--- src/state.rt:112:22
 shared-slice-read-source : tie.Need-shared-slice-read-source Inv-loop μ-loop
 shared-slice-read-source c = search needs
 
--- src/state.rt:113:13
 record-at-requires : tie.Need-record-at-requires Inv-loop μ-loop
 record-at-requires c κs = search needs
 
--- src/state.rt:114:12
 reaches-requires : tie.Need-reaches-requires Inv-loop μ-loop
 reaches-requires c κs = search needs
 
--- src/state.rt:115:13
 returns : tie.Need-returns Inv-loop μ-loop
 returns c = search-finds _ (c .before .before .before .before .before .before .before .before .before .before .pre .0) (c .before .before .before .before .before .before .before .before .before .before .pre .1) _ _ _ _ (c .before .before .before .before .before .loop .inv .1) (c .before .before .before .before .loop-test .taken) _ (c .before .before .record-at .ensures) (c .before .reaches .ensures) (c .if1 .taken)
 
--- src/state.rt:117:9
 add-i : tie.Need-add-i Inv-loop μ-loop
 add-i c = search needs
 
--- src/state.rt:111:5
 loop-less : tie.Need-loop-less Inv-loop μ-loop
 loop-less c = search needs
 
--- src/state.rt:111:5
 loop-again : tie.Need-loop-again Inv-loop μ-loop
 loop-again c = (omega (arith, c .before .before .before .before .loop-test .taken), search-goes-on _ (c .before .before .before .before .before .before .before .before .before .before .pre .0) (c .before .before .before .before .before .before .before .before .before .before .pre .1) _ _ _ _ (c .before .before .before .before .before .loop .inv .1) (c .before .before .before .before .loop-test .taken) _ (c .before .before .record-at .ensures) (c .before .reaches .ensures) (c .if1 .left))
 
--- src/state.rt:100:1
 returns-2 : tie.Need-returns-2 Inv-loop μ-loop
 returns-2 c = search-ends _ (c .before .before .before .before .before .before .pre .0) (c .before .before .before .before .before .before .pre .1) _ _ _ _ (c .before .loop .inv .1) (c .loop-test .left)
 

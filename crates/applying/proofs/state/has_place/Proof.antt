@@ -2,56 +2,40 @@
 use Rattle.applying.proofs.StateLaws.{no-place, its-place}
 use mathlib.Core.Path.{sym, ap, _∙_}
 use Rattle.slices.specs.Order.{isEqual}
-use native.Mathlib.Omega.{arith}
 use borrow.Author.Needs.{needs}
 use Rattle.applying.proofs.state.has_place.Statement.{statement}
 use Rattle.applying.proofs.state.has_place.Tie as tie
-use Rattle.applying.proofs.state.has_place.Reads as reads
-use Rattle.applying.proofs.state.has_place.Lts as lts
-use Rattle.applying.proofs.state.place_order.Reads as place-order-reads
-use Rattle.routes.proofs.record_at.Reads as record-at-reads
 
--- src/state.rt:179:9
 returns : tie.Need-returns
 returns c = no-place _ (c .before .before .before .before .before .pre .0) (c .before .before .before .before .before .pre .1) _ _ _ _ (c .if1 .taken)
 
--- src/state.rt:181:18
 mul-source : tie.Need-mul-source
 mul-source c = search needs
 
--- src/state.rt:181:18
 shared-slice-read-source : tie.Need-shared-slice-read-source
 shared-slice-read-source c = search needs
 
--- src/state.rt:182:9
 record-at-requires : tie.Need-record-at-requires
 record-at-requires c κs = search needs
 
--- src/state.rt:183:9
 place-order-requires : tie.Need-place-order-requires
 place-order-requires c κs = search needs
 
--- src/state.rt:185:27
 enum-told : tie.Need-enum-told
 enum-told c = search needs
 
--- src/state.rt:186:28
 enum-told-2 : tie.Need-enum-told-2
 enum-told-2 c = search needs
 
--- src/state.rt:187:30
 enum-told-3 : tie.Need-enum-told-3
 enum-told-3 c = search needs
 
--- src/state.rt:167:1
 returns-2 : tie.Need-returns-2
 returns-2 c = ap isEqual (sym (c .enum-told .given .1)) ∙ its-place _ (c .before .before .before .before .before .before .before .before .before .before .pre .0) (c .before .before .before .before .before .before .before .before .before .before .pre .1) _ _ _ _ _ (c .before .before .before .before .before .if1 .left) (c .before .before .before .record-at .ensures) (c .before .before .place-order .ensures)
 
--- src/state.rt:167:1
 returns-3 : tie.Need-returns-3
 returns-3 c = ap isEqual (sym (c .enum-told2 .given .1)) ∙ its-place _ (c .before .before .before .before .before .before .before .before .before .before .pre .0) (c .before .before .before .before .before .before .before .before .before .before .pre .1) _ _ _ _ _ (c .before .before .before .before .before .if1 .left) (c .before .before .before .record-at .ensures) (c .before .before .place-order .ensures)
 
--- src/state.rt:167:1
 returns-4 : tie.Need-returns-4
 returns-4 c = ap isEqual (sym (c .enum-told3 .given .1)) ∙ its-place _ (c .before .before .before .before .before .before .before .before .before .before .pre .0) (c .before .before .before .before .before .before .before .before .before .before .pre .1) _ _ _ _ _ (c .before .before .before .before .before .if1 .left) (c .before .before .before .record-at .ensures) (c .before .before .place-order .ensures)
 

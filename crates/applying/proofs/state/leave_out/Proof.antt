@@ -9,8 +9,6 @@ use borrow.Author.Needs.{needs}
 use native.Mathlib.Omega.{arith}
 use Rattle.applying.proofs.state.leave_out.Statement.{statement}
 use Rattle.applying.proofs.state.leave_out.Tie as tie
-use Rattle.applying.proofs.state.leave_out.Reads as reads
-use Rattle.applying.proofs.state.leave_out.Lts as lts
 
 abbrev Inv-loop : tie.InvT-loop
 Inv-loop at₀ count i last k₀ at k = (i < count) × (count ≤ 480) × (last ≡ count - 1) × (k ≤ last) × (length at ≡ 480) × (length at ≡ length at₀) × (leftOut k at ≡ leftOut i at₀)
@@ -18,52 +16,40 @@ Inv-loop at₀ count i last k₀ at k = (i < count) × (count ≤ 480) × (last 
 abbrev μ-loop : tie.MeasureT-loop
 μ-loop at₀ count i last k₀ at k = last - k
 
--- src/state.rt:232:16
 sub-last : tie.Need-sub-last Inv-loop μ-loop
 sub-last c = search needs
 
--- src/state.rt:234:5
 loop-holds : tie.Need-loop-holds Inv-loop μ-loop
 loop-holds c = (c .pre .0, c .pre .1, refl, omega (arith, c .pre .0), c .pre .2, refl, refl)
 
--- src/state.rt:235:23
 add-next : tie.Need-add-next Inv-loop μ-loop
 add-next c = search needs
 
--- src/state.rt:235:20
 mul-next : tie.Need-mul-next Inv-loop μ-loop
 mul-next c = search needs
 
--- src/state.rt:235:20
 slice-read-next : tie.Need-slice-read-next Inv-loop μ-loop
 slice-read-next c = search needs
 
--- src/state.rt:236:9
 mul-at : tie.Need-mul-at Inv-loop μ-loop
 mul-at c = search needs
 
--- src/state.rt:236:9
 slice-write-at : tie.Need-slice-write-at Inv-loop μ-loop
 slice-write-at c = search needs
 
--- src/state.rt:237:9
 add-k : tie.Need-add-k Inv-loop μ-loop
 add-k c = search needs
 
--- src/state.rt:234:5
 loop-less : tie.Need-loop-less Inv-loop μ-loop
 loop-less c = search needs
 
--- src/state.rt:234:5
 loop-again : tie.Need-loop-again Inv-loop μ-loop
 loop-again c = let inv = c .before .before .loop .inv in
     (inv .0, inv .1, inv .2, omega (arith, c .before .loop-test .taken), search needs, search needs, out-step _ _ (omega (arith, c .before .loop-test .taken, inv .2, inv .1, inv .4)) ∙ inv .6)
 
--- src/state.rt:228:1
 same-length : tie.Need-same-length Inv-loop μ-loop
 same-length c = search needs
 
--- src/state.rt:228:1
 returns : tie.Need-returns Inv-loop μ-loop
 unfolding inUse
 returns c = let inv = c .before .loop .inv in

@@ -1,44 +1,31 @@
 -- A law for each way that it returns. Assumes nothing.
 use Rattle.applying.proofs.StateLaws.{by-key}
 use mathlib.Core.Path.{refl, sym, _∙_}
-use native.Mathlib.Omega.{arith}
 use borrow.Author.Needs.{needs}
 use Rattle.applying.proofs.state.place_order.Statement.{statement}
 use Rattle.applying.proofs.state.place_order.Tie as tie
-use Rattle.applying.proofs.state.place_order.Reads as reads
-use Rattle.applying.proofs.state.place_order.Lts as lts
-use Rattle.applying.proofs.state.order_on_route.Reads as order-on-route-reads
-use Rattle.slices.proofs.compare.Reads as compare-reads
 
--- src/state.rt:59:9
 compare-requires : tie.Need-compare-requires
 compare-requires c κs = search needs
 
--- src/state.rt:61:27
 enum-told : tie.Need-enum-told
 enum-told c = search needs
 
--- src/state.rt:62:28
 enum-told-2 : tie.Need-enum-told-2
 enum-told-2 c = search needs
 
--- src/state.rt:62:28
 order-on-route-requires : tie.Need-order-on-route-requires
 order-on-route-requires c κs = search needs
 
--- src/state.rt:63:30
 enum-told-3 : tie.Need-enum-told-3
 enum-told-3 c = search needs
 
--- src/state.rt:56:1
 returns : tie.Need-returns
 returns c = by-key _ _ (c .before .before .compare .ensures) refl refl .0 (c .enum-told .given .1)
 
--- src/state.rt:56:1
 returns-2 : tie.Need-returns-2
 returns-2 c = c .order-on-route .ensures (sym (c .before .before .before .compare .ensures) ∙ c .before .enum-told2 .given .1)
 
--- src/state.rt:56:1
 returns-3 : tie.Need-returns-3
 returns-3 c = by-key _ _ (c .before .before .compare .ensures) refl refl .1 (c .enum-told3 .given .1)
 

@@ -9,8 +9,6 @@ use borrow.Author.Needs.{needs}
 use native.Mathlib.Omega.{arith}
 use Rattle.applying.proofs.state.put_at.Statement.{statement}
 use Rattle.applying.proofs.state.put_at.Tie as tie
-use Rattle.applying.proofs.state.put_at.Reads as reads
-use Rattle.applying.proofs.state.put_at.Lts as lts
 
 abbrev Inv-loop : tie.InvT-loop
 Inv-loop at₀ count i source carried₀ k₀ at carried k = (i ≤ count) × (count < 480) × (k ≤ count) × (length at ≡ 480) × (length at ≡ length at₀) × (putAt k carried at ≡ putAt i source at₀)
@@ -18,52 +16,40 @@ Inv-loop at₀ count i source carried₀ k₀ at carried k = (i ≤ count) × (c
 abbrev μ-loop : tie.MeasureT-loop
 μ-loop at₀ count i source carried₀ k₀ at carried k = count - k
 
--- src/state.rt:218:5
 loop-holds : tie.Need-loop-holds Inv-loop μ-loop
 loop-holds c = (c .pre .0, c .pre .1, c .pre .0, c .pre .2, refl, refl)
 
--- src/state.rt:219:20
 mul-next : tie.Need-mul-next Inv-loop μ-loop
 mul-next c = search needs
 
--- src/state.rt:219:20
 slice-read-next : tie.Need-slice-read-next Inv-loop μ-loop
 slice-read-next c = search needs
 
--- src/state.rt:220:9
 mul-at : tie.Need-mul-at Inv-loop μ-loop
 mul-at c = search needs
 
--- src/state.rt:220:9
 slice-write-at : tie.Need-slice-write-at Inv-loop μ-loop
 slice-write-at c = search needs
 
--- src/state.rt:222:9
 add-k : tie.Need-add-k Inv-loop μ-loop
 add-k c = search needs
 
--- src/state.rt:218:5
 loop-less : tie.Need-loop-less Inv-loop μ-loop
 loop-less c = search needs
 
--- src/state.rt:218:5
 loop-again : tie.Need-loop-again Inv-loop μ-loop
 loop-again c = let inv = c .before .before .loop .inv in
     (inv .0, inv .1, omega (arith, c .before .loop-test .taken), search needs, search needs, put-step _ _ _ (omega (arith, c .before .loop-test .taken, inv .1, inv .3)) ∙ inv .5)
 
--- src/state.rt:224:5
 mul-at-2 : tie.Need-mul-at-2 Inv-loop μ-loop
 mul-at-2 c = search needs
 
--- src/state.rt:224:5
 slice-write-at-2 : tie.Need-slice-write-at-2 Inv-loop μ-loop
 slice-write-at-2 c = search needs
 
--- src/state.rt:212:1
 same-length : tie.Need-same-length Inv-loop μ-loop
 same-length c = search needs
 
--- src/state.rt:212:1
 returns : tie.Need-returns Inv-loop μ-loop
 unfolding inUse
 returns c = let inv = c .before .loop .inv in

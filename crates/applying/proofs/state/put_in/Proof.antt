@@ -8,58 +8,41 @@ use native.Mathlib.Omega.{arith}
 use borrow.Author.Needs.{needs}
 use Rattle.applying.proofs.state.put_in.Statement.{statement}
 use Rattle.applying.proofs.state.put_in.Tie as tie
-use Rattle.applying.proofs.state.put_in.Reads as reads
-use Rattle.applying.proofs.state.put_in.Lts as lts
-use Rattle.applying.proofs.state.count_before.Reads as count-before-reads
-use Rattle.applying.proofs.state.has_place.Reads as has-place-reads
-use Rattle.applying.proofs.state.put_at.Reads as put-at-reads
-use Rattle.routes.proofs.record_at.Reads as record-at-reads
 
--- src/state.rt:253:9
 record-at-requires : tie.Need-record-at-requires
 record-at-requires c κs = search needs
 
--- src/state.rt:254:9
 count-before-requires : tie.Need-count-before-requires
 count-before-requires c κs = search needs
 
--- src/state.rt:256:9
 same-length : tie.Need-same-length
 same-length c = search needs
 
--- src/state.rt:256:9
 returns : tie.Need-returns
 returns c = let n = in-use-length (held (c .before .before .before .before .before .before .before .args .count) (now (c .before .before .before .before .before .before .before .args .at))) (c .before .before .before .before .before .before .before .pre .0 .0) (c .before .before .before .before .before .before .before .pre .0 .1) in
     put-full _ _ _ _ _ (c .before .before .before .record-at .ensures) (c .before .count-before .ensures) _ _ (omega (arith, n, c .if1 .taken)) refl
 
--- src/state.rt:258:8
 has-place-requires : tie.Need-has-place-requires
 has-place-requires c κs = search needs
 
--- src/state.rt:259:9
 same-length-2 : tie.Need-same-length-2
 same-length-2 c = search needs
 
--- src/state.rt:259:9
 returns-2 : tie.Need-returns-2
 returns-2 c = let n = in-use-length (held (c .before .before .before .before .before .before .before .before .before .before .args .count) (now (c .before .before .before .before .before .before .before .before .before .before .args .at))) (c .before .before .before .before .before .before .before .before .before .before .pre .0 .0) (c .before .before .before .before .before .before .before .before .before .before .pre .0 .1) in
     put-taken _ _ _ _ _ (c .before .before .before .before .before .before .record-at .ensures) (c .before .before .before .before .count-before .ensures) _ _ (omega (arith, n, c .before .before .before .if1 .left)) (c .before .has-place .ensures) (c .if2 .taken) refl
 
--- src/state.rt:261:5
 put-at-requires : tie.Need-put-at-requires
 put-at-requires c κs = let st = held (c .before .before .before .before .before .before .before .before .before .before .before .args .count) (now (c .before .before .before .before .before .before .before .before .before .before .before .args .at)) in
     let n = in-use-length st (c .before .before .before .before .before .before .before .before .before .before .before .pre .0 .0) (c .before .before .before .before .before .before .before .before .before .before .before .pre .0 .1) in
     (omega (arith, n, c .before .before .before .before .before .count-before .ensures, count-within (now (c .before .before .before .before .before .before .before .before .before .before .before .args .frozen)) (now (c .before .before .before .before .before .before .before .before .before .before .before .args .log)) (now (c .before .before .before .before .before .before .before .record-at .result)) (inUse st)), c .before .before .before .before .if1 .left, c .before .before .before .before .before .before .before .before .before .before .before .pre .0 .1)
 
--- src/state.rt:264:16
 add-t18 : tie.Need-add-t18
 add-t18 c = search needs
 
--- src/state.rt:242:1
 same-length-3 : tie.Need-same-length-3
 same-length-3 c = search needs
 
--- src/state.rt:242:1
 returns-3 : tie.Need-returns-3
 returns-3 c = let n = in-use-length (held (c .before .before .before .before .before .before .before .before .before .before .before .before .before .before .args .count) (now (c .before .before .before .before .before .before .before .before .before .before .before .before .before .before .args .at))) (c .before .before .before .before .before .before .before .before .before .before .before .before .before .before .pre .0 .0) (c .before .before .before .before .before .before .before .before .before .before .before .before .before .before .pre .0 .1) in
     put-made _ _ _ _ _ (c .before .before .before .before .before .before .before .before .before .before .record-at .ensures) (c .before .before .before .before .before .before .before .before .count-before .ensures) _ _ (omega (arith, n, c .before .before .before .before .before .before .before .if1 .left)) (c .before .before .before .before .before .has-place .ensures) (c .before .before .before .before .if2 .left) refl (omega (arith, c .before .before .before .before .before .before .before .if1 .left)) (c .before .before .put-at .ensures)

@@ -10,8 +10,6 @@ use borrow.Author.Needs.{needs}
 use native.Mathlib.Omega.{arith}
 use Rattle.applying.proofs.state.range_of.Statement.{statement}
 use Rattle.applying.proofs.state.range_of.Tie as tie
-use Rattle.applying.proofs.state.range_of.Reads as reads
-use Rattle.applying.proofs.state.range_of.Lts as lts
 
 abbrev Inv-loop : tie.InvT-loop
 Inv-loop at from to found₀ i₀ found i = (to ≤ 480) × (length at ≡ 480) × (from + found .count ≡ i) × (sourcesFor (sourcesIn (held 480 at) from to) ≡ withMore found (drop i (take to (inUse (held 480 at)))))
@@ -19,44 +17,34 @@ Inv-loop at from to found₀ i₀ found i = (to ≤ 480) × (length at ≡ 480) 
 abbrev μ-loop : tie.MeasureT-loop
 μ-loop at from to found₀ i₀ found i = to - i
 
--- src/state.rt:301:5
 loop-holds : tie.Need-loop-holds Inv-loop μ-loop
 loop-holds c = (c .pre .1, c .pre .2, omega arith, range-start (held 480 (now (c .args .at))) (omega arith) (c .pre .2) _ (c .pre .1) (c .args .from))
 
--- src/state.rt:303:22
 mul-source : tie.Need-mul-source Inv-loop μ-loop
 mul-source c = search needs
 
--- src/state.rt:303:22
 shared-slice-read-source : tie.Need-shared-slice-read-source Inv-loop μ-loop
 shared-slice-read-source c = search needs
 
--- src/state.rt:304:9
 mul-found : tie.Need-mul-found Inv-loop μ-loop
 mul-found c = search needs
 
--- src/state.rt:304:9
 element-write-found : tie.Need-element-write-found Inv-loop μ-loop
 element-write-found c = search needs
 
--- src/state.rt:305:23
 add-found : tie.Need-add-found Inv-loop μ-loop
 add-found c = search needs
 
--- src/state.rt:306:9
 add-i : tie.Need-add-i Inv-loop μ-loop
 add-i c = search needs
 
--- src/state.rt:301:5
 loop-less : tie.Need-loop-less Inv-loop μ-loop
 loop-less c = search needs
 
--- src/state.rt:301:5
 loop-again : tie.Need-loop-again Inv-loop μ-loop
 loop-again c = let inv = c .before .before .loop .inv in
     (inv .0, inv .1, omega (arith, inv .2), range-next _ (omega arith) (inv .1) _ (inv .0) _ _ (inv .3) (c .before .loop-test .taken))
 
--- src/state.rt:292:1
 returns : tie.Need-returns Inv-loop μ-loop
 returns c = let inv = c .before .loop .inv in range-end _ (omega arith) (inv .1) _ (inv .0) _ _ (inv .3) (c .loop-test .left)
 

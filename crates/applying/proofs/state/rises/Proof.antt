@@ -8,10 +8,6 @@ use borrow.Author.Needs.{needs}
 use native.Mathlib.Omega.{arith}
 use Rattle.applying.proofs.state.rises.Statement.{statement}
 use Rattle.applying.proofs.state.rises.Tie as tie
-use Rattle.applying.proofs.state.rises.Reads as reads
-use Rattle.applying.proofs.state.rises.Lts as lts
-use Rattle.applying.proofs.state.reaches.Reads as reaches-reads
-use Rattle.routes.proofs.record_at.Reads as record-at-reads
 
 abbrev Inv-loop : tie.InvT-loop
 Inv-loop frozen log at count i₀ i = (1 ≤ i) × Tested frozen log (held count at) i
@@ -19,60 +15,46 @@ Inv-loop frozen log at count i₀ i = (1 ≤ i) × Tested frozen log (held count
 abbrev μ-loop : tie.MeasureT-loop
 μ-loop frozen log at count i₀ i = count - i
 
--- src/state.rt:86:5
 loop-holds : tie.Need-loop-holds Inv-loop μ-loop
 loop-holds c = (omega arith, λ j k. absurd (omega arith))
 
--- src/state.rt:87:25
 sub-source : tie.Need-sub-source Inv-loop μ-loop
 sub-source c = search needs
 
--- src/state.rt:87:22
 mul-source : tie.Need-mul-source Inv-loop μ-loop
 mul-source c = search needs
 
--- src/state.rt:87:22
 shared-slice-read-source : tie.Need-shared-slice-read-source Inv-loop μ-loop
 shared-slice-read-source c = search needs
 
--- src/state.rt:88:20
 mul-next : tie.Need-mul-next Inv-loop μ-loop
 mul-next c = search needs
 
--- src/state.rt:88:20
 shared-slice-read-next : tie.Need-shared-slice-read-next Inv-loop μ-loop
 shared-slice-read-next c = search needs
 
--- src/state.rt:89:13
 record-at-requires : tie.Need-record-at-requires Inv-loop μ-loop
 record-at-requires c κs = search needs
 
--- src/state.rt:90:13
 record-at-requires-2 : tie.Need-record-at-requires-2 Inv-loop μ-loop
 record-at-requires-2 c κs = search needs
 
--- src/state.rt:91:12
 reaches-requires : tie.Need-reaches-requires Inv-loop μ-loop
 reaches-requires c κs = search needs
 
--- src/state.rt:92:13
 returns : tie.Need-returns Inv-loop μ-loop
 returns c = λ t. absurd (false≢true t)
 
--- src/state.rt:94:9
 add-i : tie.Need-add-i Inv-loop μ-loop
 add-i c = search needs
 
--- src/state.rt:86:5
 loop-less : tie.Need-loop-less Inv-loop μ-loop
 loop-less c = search needs
 
--- src/state.rt:86:5
 loop-again : tie.Need-loop-again Inv-loop μ-loop
 loop-again c = let inv = c .before .before .before .before .before .before .before .loop .inv in
     (omega (arith, inv .0), tested-next _ _ (held (c .before .before .before .before .before .before .before .before .before .before .before .args .count) (now (c .before .before .before .before .before .before .before .before .before .before .before .args .at))) (c .before .before .before .before .before .before .before .before .before .before .before .pre .0) (c .before .before .before .before .before .before .before .before .before .before .before .pre .1) _ (inv .0) (inv .1) (c .before .before .before .record-at .ensures) (c .before .before .record-at2 .ensures) (c .before .reaches .ensures) (c .if1 .left))
 
--- src/state.rt:81:1
 returns-2 : tie.Need-returns-2 Inv-loop μ-loop
 returns-2 c = λ _. tested-all _ _ (held (c .before .before .before .before .before .args .count) (now (c .before .before .before .before .before .args .at))) (c .before .before .before .before .before .pre .0) (c .before .before .before .before .before .pre .1) _ (c .loop-test .left) (c .before .loop .inv .1)
 

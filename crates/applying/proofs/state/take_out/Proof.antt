@@ -8,45 +8,32 @@ use native.Mathlib.Omega.{arith}
 use borrow.Author.Needs.{needs}
 use Rattle.applying.proofs.state.take_out.Statement.{statement}
 use Rattle.applying.proofs.state.take_out.Tie as tie
-use Rattle.applying.proofs.state.take_out.Reads as reads
-use Rattle.applying.proofs.state.take_out.Lts as lts
-use Rattle.applying.proofs.state.count_before.Reads as count-before-reads
-use Rattle.applying.proofs.state.is_record.Reads as is-record-reads
-use Rattle.applying.proofs.state.leave_out.Reads as leave-out-reads
 
--- src/state.rt:280:9
 count-before-requires : tie.Need-count-before-requires
 count-before-requires c κs = search needs
 
--- src/state.rt:281:8
 is-record-requires : tie.Need-is-record-requires
 is-record-requires c κs = search needs
 
--- src/state.rt:282:9
 leave-out-requires : tie.Need-leave-out-requires
 leave-out-requires c κs = let st = held (c .before .before .before .before .before .before .before .before .before .before .args .count) (now (c .before .before .before .before .before .before .before .before .before .before .args .at)) in
     let n = in-use-length st (c .before .before .before .before .before .before .before .before .before .before .pre .0 .0) (c .before .before .before .before .before .before .before .before .before .before .pre .0 .1) in
     (omega (arith, n, record-within (now (c .before .before .before .before .before .before .before .before .before .before .args .frozen)) (now (c .before .before .before .before .before .before .before .before .before .before .args .log)) (now (c .before .before .before .before .before .before .before .before .before .before .args .rec)) (inUse st) (c .before .before .before .before .count-before .result) (sym (c .before .before .is-record .ensures) ∙ c .before .if1 .taken)), c .before .before .before .before .before .before .before .before .before .before .pre .0 .0, c .before .before .before .before .before .before .before .before .before .before .pre .0 .1)
 
--- src/state.rt:285:20
 sub-t16 : tie.Need-sub-t16
 sub-t16 c = let st = held (c .before .before .before .before .before .before .before .before .before .before .before .before .before .args .count) (now (c .before .before .before .before .before .before .before .before .before .before .before .before .before .args .at)) in
     let n = in-use-length st (c .before .before .before .before .before .before .before .before .before .before .before .before .before .pre .0 .0) (c .before .before .before .before .before .before .before .before .before .before .before .before .before .pre .0 .1) in
     omega (arith, n, record-within (now (c .before .before .before .before .before .before .before .before .before .before .before .before .before .args .frozen)) (now (c .before .before .before .before .before .before .before .before .before .before .before .before .before .args .log)) (now (c .before .before .before .before .before .before .before .before .before .before .before .before .before .args .rec)) (inUse st) (c .before .before .before .before .before .before .before .count-before .result) (sym (c .before .before .before .before .before .is-record .ensures) ∙ c .before .before .before .before .if1 .taken))
 
--- src/state.rt:283:9
 same-length : tie.Need-same-length
 same-length c = search needs
 
--- src/state.rt:283:9
 returns : tie.Need-returns
 returns c = take-made _ _ _ _ (c .before .before .before .before .before .before .before .count-before .ensures) _ _ (c .before .before .before .before .before .is-record .ensures) (c .before .before .before .before .if1 .taken) refl (omega (arith, c .before .before .before .before .before .before .before .before .before .before .before .before .before .pre .0 .0)) (c .before .before .leave-out .ensures)
 
--- src/state.rt:269:1
 same-length-2 : tie.Need-same-length-2
 same-length-2 c = search needs
 
--- src/state.rt:269:1
 returns-2 : tie.Need-returns-2
 returns-2 c = take-failed _ _ _ _ (c .before .before .before .count-before .ensures) _ _ (c .before .is-record .ensures) (c .if1 .left) refl
 

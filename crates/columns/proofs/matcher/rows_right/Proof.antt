@@ -1,5 +1,4 @@
 -- The invariant: the rows passed are right. Assumes nothing.
-use mathlib.Core.Path.{_≡_}
 use mathlib.Core.Bool.{false≢true}
 use Rattle.slices.proofs.Cases.{is-true}
 use Prim.Native.Nat.{_≤_, _-_}
@@ -7,7 +6,6 @@ use lib.ListN.{length}
 use Rattle.columns.proofs.QuickLaws.{rows-none, rows-next, rows-all}
 use Rattle.columns.specs.Quick.{RowsRight}
 use borrow.Author.Needs.{needs}
-use native.Mathlib.Omega.{arith}
 use Rattle.columns.proofs.matcher.rows_right.Statement.{statement}
 use Rattle.columns.proofs.matcher.rows_right.Tie as tie
 

@@ -1,6 +1,5 @@
 -- The four pairs one after the other. Assumes nothing.
 use Rattle.columns.proofs.QuickLaws.{four-pairs}
-use native.Mathlib.Omega.{arith}
 use borrow.Author.Needs.{needs}
 use Rattle.columns.proofs.quick.column_takes.Statement.{statement}
 use Rattle.columns.proofs.quick.column_takes.Tie as tie

@@ -6,7 +6,6 @@ use Rattle.columns.proofs.QuickLaws.{covers, quick-right}
 use Rattle.columns.specs.Layout.{primary}
 use Rattle.columns.specs.Neighbours.{neighbours}
 use Rattle.columns.specs.Quick.{joined, lines}
-use native.Mathlib.Omega.{arith}
 use borrow.Author.Needs.{needs}
 use Rattle.columns.proofs.tables.primary_is_right.Statement.{statement}
 use Rattle.columns.proofs.tables.primary_is_right.Tie as tie

@@ -4,7 +4,6 @@ use Rattle.corrections.proofs.ReachLaws.{heading-other}
 use Rattle.corrections.proofs.LineLaws.{whole-is}
 use Rattle.corrections.proofs.lines.heading_stands.Statement.{statement}
 use Rattle.corrections.proofs.lines.heading_stands.Tie as tie
-use Rattle.slices.proofs.byte_at.Reads as byte-at-reads
 
 byte-at-requires : tie.Need-byte-at-requires
 byte-at-requires c κs = search needs

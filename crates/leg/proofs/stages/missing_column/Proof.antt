@@ -1,6 +1,6 @@
 -- The invariant: the fields that are left give the answer. Assumes nothing.
 use borrow.Author.Needs.{needs}
-use mathlib.Core.Path.{_≡_, refl, _∙_}
+use mathlib.Core.Path.{_≡_, refl}
 use Prim.Native.Nat.{_≤_, _-_}
 use lib.ListN.{drop}
 use Rattle.leg.proofs.StageLaws.{counted, counted-at, missing-here, missing-on, missing-none}
