@@ -37,7 +37,7 @@ use Rattle.routes.proofs.InTurnLaws.{alone, accepts-iff, five-accept}
 -- ---- the stages, one by one
 
 -- two runs of the same length that differ nowhere are the same
-difference-iff : (c : ℕ) (xs ys : List ℕ) → length xs ≡ length ys → 1 ≤ c → (firstDifference c xs ys ≡ 0) ↔ (xs ≡ ys)
+pub difference-iff : (c : ℕ) (xs ys : List ℕ) → length xs ≡ length ys → 1 ≤ c → (firstDifference c xs ys ≡ 0) ↔ (xs ≡ ys)
 unfolding firstDifference
 difference-iff c [] [] l h = (λ e. refl, λ e. refl)
 difference-iff c [] (y ∷ ys) l h = absurd (omega arith)
