@@ -343,7 +343,7 @@ module _ (frozen log : List ℕ) where
       routes ys q (Refused s) t h = subst (FirstCorrection frozen log n (es ∷ ess) xs) (same-refusal h) (route q t)
 
       applied : (o : Option (List ℕ)) → linesApplied frozen log es xs ≡ o
-          → outcomeVerdict (onward (afterLines frozen log n es (failsAt frozen log es xs) o) (ran frozen log everything (n + 1) ess)) ≡ Refused r
+          → outcomeVerdict (onward (afterLines frozen log true n es (failsAt frozen log es xs) o) (ran frozen log everything (n + 1) ess)) ≡ Refused r
           → FirstCorrection frozen log n (es ∷ ess) xs r
       applied none q h = subst (FirstCorrection frozen log n (es ∷ ess) xs) (same-refusal h) (unapplied q)
       applied (some ys) q h = routes ys q (touchedJudged frozen log es 0 ys) refl h
