@@ -6,7 +6,7 @@ use mathlib.Core.Bool.{true, false≢true}
 use mathlib.Core.List.{List, [], _∷_, map}
 use Prim.Native.Nat.{ℕ, zero, suc, _+_, _≤_, _<_}
 use native.Mathlib.Omega.{arith}
-use lib.ListN.{length, getD, take, drop, length-drop}
+use lib.ListN.{length, getD, take, drop, length-drop, List·getD-eq-default}
 use lib.Seq.{getD-take, length-take-le, take-at}
 use Rattle.slices.specs.Part.{part}
 use Rattle.slices.specs.Order.{order, equal}
@@ -32,11 +32,6 @@ use Rattle.applying.proofs.JudgeLaws.{run-of, together-within}
 
 -- ---- the place of a key alone
 
-past : (xs : List ℕ) (i : ℕ) → length xs ≤ i → getD xs i 0 ≡ 0
-past [] i h = refl
-past (x ∷ xs) zero h = absurd (omega arith)
-past (x ∷ xs) (suc i) h = past xs i (omega arith)
-
 -- no number is before zero
 lowest : (x : ℕ) (xs ys : List ℕ) → order (x ∷ xs) (0 ∷ ys) ≡ Less → order xs ys ≡ Less
 lowest x xs ys e = ⊎-elim (λ (h : x ≡ 0). sym (order-level x 0 xs ys h) ∙ e) (λ (h : 0 < x). absurd (below (sym (order-greater x 0 xs ys h) ∙ e))) (zero-or x)
@@ -53,7 +48,7 @@ never-below : (n i : ℕ) (xs ys : List ℕ) → length ys ≤ i → order (part
 unfolding part
 never-below zero i xs ys h e = irreflexive [] e
 never-below (suc n) i xs ys h e =
-    never-below n (suc i) xs ys (omega arith) (lowest (getD xs i 0) (part n (suc i) xs) (part n (suc i) ys) (subst (λ (b : ℕ). order (getD xs i 0 ∷ part n (suc i) xs) (b ∷ part n (suc i) ys) ≡ Less) (past ys i h) e))
+    never-below n (suc i) xs ys (omega arith) (lowest (getD xs i 0) (part n (suc i) xs) (part n (suc i) ys) (subst (λ (b : ℕ). order (getD xs i 0 ∷ part n (suc i) xs) (b ∷ part n (suc i) ys) ≡ Less) (List·getD-eq-default ys 0 h) e))
 
 not-level : (o p : Ordering) → after o p ≡ Less → (o ≡ Less → ⊥) → (p ≡ Less → ⊥) → ⊥
 not-level Less p e a b = a refl
