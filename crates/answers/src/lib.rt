@@ -1,5 +1,7 @@
 // The exact bytes that the programs print: what a pick comes to, the new file, whether a log stands, and why.
 // Assumes nothing of the caller: any frozen file, any log, any list of wanted numbers, any buffer.
+#![tactic(auto)]
+
 mod pieces;
 mod texts;
 mod whys;
@@ -35,7 +37,7 @@ pub const WANT_READ: usize = 4 * MOST_CORRECTIONS + 1;
 
 // Whether an answer was written, and how many bytes it has; the line of a refusal is written as any other. Where fewer bytes are lent than the
 // longest answer needs, it is refused by 14, has no bytes, and the buffer is nothing but zeros.
-#[derive(Drop)]
+#[derive(Clone, Copy)]
 pub struct Answer {
     pub verdict: Verdict,
     pub length: usize,

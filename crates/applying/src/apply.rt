@@ -32,7 +32,7 @@ fn apply_line<'a>(
 }
 
 // What some lines come to; and the offset of the record of the first line that can't be applied, 0 where each can.
-#[derive(Drop)]
+#[derive(Clone, Copy)]
 pub(crate) struct Applied {
     pub change: Change,
     pub fails_at: u32,

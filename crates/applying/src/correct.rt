@@ -13,14 +13,14 @@ use crate::judge::judge_touched;
 use refusals::{Refusal, Verdict};
 
 // How corrections are gone over: with the places of the state rising, so that they can be searched by halves; with the routes judged.
-#[derive(Drop)]
+#[derive(Clone, Copy)]
 pub(crate) struct Pass {
     pub rising: bool,
     pub judging: bool,
 }
 
 // What a correction comes to: the refusal and what is wrong, or how many sources of the state count after it.
-#[derive(Drop)]
+#[derive(Clone, Copy)]
 pub(crate) struct Corrected {
     pub verdict: Verdict,
     pub count: usize,

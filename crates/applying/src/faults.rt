@@ -8,7 +8,7 @@ use refusals::Refusal;
 
 // What is wrong, while the state still stands as the correction left it: the offset of a line, or the places of a route in the state and its
 // refusal. Nothing but zeros where nothing is.
-#[derive(Drop)]
+#[derive(Clone, Copy)]
 pub(crate) struct Trouble {
     pub at: u32,
     pub from: usize,

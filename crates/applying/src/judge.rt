@@ -84,7 +84,7 @@ fn judge_route<'a>(
 }
 
 // A verdict on routes, and where the one that is refused stands in the state: from the place `from` on up to `to`, which are 0 where none is.
-#[derive(Drop)]
+#[derive(Clone, Copy)]
 pub(crate) struct Judged {
     pub verdict: Verdict,
     pub from: usize,

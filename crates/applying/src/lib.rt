@@ -1,5 +1,7 @@
 // The corrections of a log applied to the records of a file, which are given by their sources. Assumes nothing of the caller: any slices,
 // any index, any marks, any sources.
+#![tactic(auto)]
+
 mod apply;
 mod bounds;
 mod correct;
@@ -29,7 +31,7 @@ use state::{range_of, rises};
 // What is wrong where a correction fails. For 10 `at` is the offset in the log of the record whose line can't be applied. For 11 `route` is
 // where the records of the refused route lie, as the correction leaves them, and `inner` the refusal of these alone, its place counted from
 // the route's start. Nothing but zeros otherwise, and zeros past the route's count.
-#[derive(Drop)]
+#[derive(Clone, Copy)]
 pub struct Fault {
     pub at: u32,
     pub route: Sources,
@@ -38,7 +40,7 @@ pub struct Fault {
 
 // What some corrections come to: the refusal and what is wrong, or where the records lie that they leave; no records beside a refusal, and
 // zeros past the count.
-#[derive(Drop)]
+#[derive(Clone, Copy)]
 pub struct Ran {
     pub verdict: Verdict,
     pub records: Sources,

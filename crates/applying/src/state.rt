@@ -29,7 +29,7 @@ use routes::{RECORD_WIDTH, Sources, record_at};
 use slices::{Ordering, compare, same};
 
 // A change of a state: whether it could be made, and how many sources count after it.
-#[derive(Drop)]
+#[derive(Clone, Copy)]
 pub(crate) struct Change {
     pub done: bool,
     pub count: usize,

@@ -1,6 +1,6 @@
 // Where each field of a record stands, as paper 01's table has it: its first column, counted from 1, and how many columns it has. Columns
 // that are always blank have no name. Assumes nothing.
-#[derive(Drop)]
+#[derive(Clone, Copy)]
 pub struct Field(pub usize, pub usize);
 
 impl Field {

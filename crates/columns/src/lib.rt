@@ -1,6 +1,8 @@
 // Which byte may stand in which column of a record. The layouts are data (specs/Layout.antt); one matcher holds a record to the table
 // of bytes that it is lent, behind a quick yes for what most primary records hold. Assumes nothing of the caller: a record is any slice, and
 // a byte past its end reads as 0, which is legal nowhere.
+#![tactic(auto)]
+
 mod byte_sets;
 pub mod field;
 mod matcher;
@@ -15,7 +17,7 @@ ghost use Rattle.columns.specs.Stops.{answer_of};
 use field::Field;
 use matcher::Aim;
 
-#[derive(Drop)]
+#[derive(Clone, Copy)]
 pub enum Kind {
     Primary,
     Continuation,

@@ -125,7 +125,7 @@ fn longest_run(t: &[u8], rec: &[u8], at: usize, w: usize, first: usize, n: usize
 
 // What an answer aims at in a row that the record does not fit: the field, by its first column, or the first byte up to which the field
 // begins nothing that the row allows.
-#[derive(Drop)]
+#[derive(Clone, Copy)]
 pub(crate) enum Aim {
     Field,
     Byte,

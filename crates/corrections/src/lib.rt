@@ -1,5 +1,7 @@
 // The log as text: its lines read one after the other into an index of its corrections, or the refusal.
 // Assumes nothing of the caller: any bytes, any number of frozen records.
+#![tactic(auto)]
+
 mod lines;
 
 ghost use Rattle.std.specs.Prelude.{◌≡◌, ◌+◌, ◌-◌, ◌<◌, ◌≤◌, length, set};
@@ -34,7 +36,7 @@ pub const MOST_CHANGES: usize = LONGEST_LOG / CHANGE_WIDTH;
 
 // What a log says. `corrections` is how many it has, `count` how many D and A lines; for each of these, in their order, its letter, the
 // offset of its 132 bytes in the log and the number of its correction. A log of 60,000 bytes has no more than 444 such lines.
-#[derive(Drop)]
+#[derive(Clone, Copy)]
 pub struct Index {
     pub verdict: Verdict,
     pub corrections: usize,

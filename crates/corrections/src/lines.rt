@@ -6,7 +6,7 @@ ghost use Rattle.corrections.specs.Lines.{exactly, printable, allows, heading, c
 use crate::CHANGE_WIDTH;
 use slices::byte_at;
 
-#[derive(Drop)]
+#[derive(Clone, Copy)]
 pub enum Line {
     Heading,
     TakenOut,
@@ -29,7 +29,7 @@ fn digit(n: usize) -> u8
 }
 
 // The heading of a correction as text: its bytes, the line feed the last of them, and how many they are.
-#[derive(Drop)]
+#[derive(Clone, Copy)]
 struct HeadingText {
     bytes: [u8; 6],
     width: usize,

@@ -1,4 +1,6 @@
 // Numbers in decimal digits, read at any place of any slice. Assumes nothing of the caller: any bytes, any width.
+#![tactic(auto)]
+
 ghost use Rattle.std.specs.Prelude.{◌≡◌, ◌-◌, ◌≤◌, min};
 ghost use Rattle.slices.specs.Part.{part};
 ghost use Rattle.digits.specs.Digits.{is_digit, all_digits, value};

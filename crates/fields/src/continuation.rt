@@ -12,7 +12,7 @@ use slices::copy;
 // How many bytes of a record stand before the 83.
 const START: usize = Field::CONTENT.0 - 1;
 
-#[derive(Drop)]
+#[derive(Clone, Copy)]
 pub struct Continuation {
     pub head: Head,
     pub number: u8,

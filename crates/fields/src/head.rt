@@ -9,7 +9,7 @@ use crate::text::{Letter, Text, Word, byte_in, put_byte};
 use columns::field::Field;
 
 // Columns 1-25, by which a route is known. Column 5 is always P.
-#[derive(Drop)]
+#[derive(Clone, Copy)]
 pub struct Route {
     pub record_type: u8,
     pub area: Text,
@@ -22,7 +22,7 @@ pub struct Route {
 }
 
 // Columns 30-38.
-#[derive(Drop)]
+#[derive(Clone, Copy)]
 pub struct Fix {
     pub identifier: Word,
     pub icao: Word,
@@ -30,7 +30,7 @@ pub struct Fix {
     pub subsection: u8,
 }
 
-#[derive(Drop)]
+#[derive(Clone, Copy)]
 pub struct Head {
     pub route: Route,
     pub sequence: u32,
@@ -38,13 +38,13 @@ pub struct Head {
 }
 
 // The year's last two digits, and the number of the cycle in it.
-#[derive(Drop)]
+#[derive(Clone, Copy)]
 pub struct Cycle {
     pub year: u32,
     pub number: u32,
 }
 
-#[derive(Drop)]
+#[derive(Clone, Copy)]
 pub struct Tail {
     pub record_number: u32,
     pub cycle: Cycle,

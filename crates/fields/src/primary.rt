@@ -16,11 +16,11 @@ use columns::field::Field;
 use leg::terminator::Terminator;
 
 // The codes of columns 40-43, in which a blank is a code too.
-#[derive(Drop)]
+#[derive(Clone, Copy)]
 pub struct Description(pub u8, pub u8, pub u8, pub u8);
 
 // The recommended navaid: columns 51-56, 79 and 80.
-#[derive(Drop)]
+#[derive(Clone, Copy)]
 pub struct Navaid {
     pub identifier: Word,
     pub icao: Word,
@@ -29,7 +29,7 @@ pub struct Navaid {
 }
 
 // Columns 107-116.
-#[derive(Drop)]
+#[derive(Clone, Copy)]
 pub struct CentreFix {
     pub identifier: Word,
     pub multiple: Letter,
@@ -38,7 +38,7 @@ pub struct CentreFix {
     pub subsection: u8,
 }
 
-#[derive(Drop)]
+#[derive(Clone, Copy)]
 pub struct Leg {
     pub head: Head,
     pub continuation: u8,

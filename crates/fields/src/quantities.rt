@@ -21,49 +21,49 @@ use columns::field::Field;
 use leg::terminator::Terminator;
 
 // The required navigation performance as its three digits, columns 45-47.
-#[derive(Drop)]
+#[derive(Clone, Copy)]
 pub enum Rnp {
     Absent,
     Is(u32),
 }
 
 // Columns 57-62.
-#[derive(Drop)]
+#[derive(Clone, Copy)]
 pub enum ArcRadius {
     Absent,
     Is(ThousandthsOfMile),
 }
 
 // Columns 63-66.
-#[derive(Drop)]
+#[derive(Clone, Copy)]
 pub enum Theta {
     Absent,
     Is(TenthsOfDegree),
 }
 
 // Columns 67-70.
-#[derive(Drop)]
+#[derive(Clone, Copy)]
 pub enum Rho {
     Absent,
     Is(TenthsOfMile),
 }
 
 // Columns 95-99.
-#[derive(Drop)]
+#[derive(Clone, Copy)]
 pub enum TransitionAltitude {
     Absent,
     Is(Feet),
 }
 
 // Columns 100-102.
-#[derive(Drop)]
+#[derive(Clone, Copy)]
 pub enum Speed {
     Absent,
     Is(Knots),
 }
 
 // Columns 71-74: magnetic, or true.
-#[derive(Drop)]
+#[derive(Clone, Copy)]
 pub enum Course {
     Absent,
     Magnetic(TenthsOfDegree),
@@ -71,7 +71,7 @@ pub enum Course {
 }
 
 // Columns 75-78: on a holding also a time.
-#[derive(Drop)]
+#[derive(Clone, Copy)]
 pub enum Distance {
     Absent,
     Miles(TenthsOfMile),
@@ -79,7 +79,7 @@ pub enum Distance {
 }
 
 // Columns 85-89 and 90-94: feet above sea level, feet below it, or a flight level, which is no number of feet.
-#[derive(Drop)]
+#[derive(Clone, Copy)]
 pub enum Altitude {
     Absent,
     Feet(Feet),
@@ -88,7 +88,7 @@ pub enum Altitude {
 }
 
 // Columns 103-106, always downward.
-#[derive(Drop)]
+#[derive(Clone, Copy)]
 pub enum VerticalAngle {
     Absent,
     Down(HundredthsOfDegree),

@@ -11,18 +11,18 @@ use columns::field::Field;
 use slices::{byte_after, byte_at, copy, is_blank, put_after};
 
 // Up to six bytes from the left, blanks behind them.
-#[derive(Drop)]
+#[derive(Clone, Copy)]
 pub struct Text(pub u8, pub u8, pub u8, pub u8, pub u8, pub u8);
 
 // A text that may be absent.
-#[derive(Drop)]
+#[derive(Clone, Copy)]
 pub enum Word {
     Absent,
     Is(Text),
 }
 
 // A letter or digit that may be absent.
-#[derive(Drop)]
+#[derive(Clone, Copy)]
 pub enum Letter {
     Absent,
     Is(u8),

@@ -8,7 +8,7 @@ ghost use Rattle.fields.specs.Turn.{turn_of, turn_bytes};
 use crate::text::{byte_in, put_byte};
 use columns::field::Field;
 
-#[derive(Drop)]
+#[derive(Clone, Copy)]
 pub enum Turn {
     Absent,
     Left,

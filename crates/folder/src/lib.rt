@@ -2,6 +2,8 @@
 //
 // What a file holds is the world's to say, so this is the one public contract of the library that leaves an answer open: it says only that
 // the answer counts no more than the buffer holds, and that the rest is 0.
+#![tactic(auto)]
+
 ghost use Rattle.std.specs.Prelude.{◌≡◌, ◌-◌, ◌≤◌, length, drop, replicate};
 ghost use Rattle.io.specs.Counts.{IsPrefixLen};
 

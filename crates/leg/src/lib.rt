@@ -1,5 +1,7 @@
 // One record judged: the content of its fields, its companions, the fields that its leg needs. Assumes nothing of the caller: a record
 // is any slice.
+#![tactic(auto)]
+
 mod stages;
 pub mod terminator;
 

@@ -62,7 +62,7 @@ pub(crate) fn companion_column(rec: &[u8]) -> usize
 }
 
 // A field that a leg may need, and the letter by which a terminator needs it.
-#[derive(Drop)]
+#[derive(Clone, Copy)]
 pub struct Needable(pub u8, pub Field);
 
 // From left to right. No terminator needs the second altitude.

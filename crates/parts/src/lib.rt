@@ -1,5 +1,7 @@
 // One record alone, read into its parts and written from them. Assumes nothing of the caller: a slice of any length and content is
 // read or refused, any parts are written or refused, and a lent buffer of any length is filled to its last byte.
+#![tactic(auto)]
+
 ghost use Rattle.std.specs.Prelude.{◌≡◌, length, replicate};
 ghost use Rattle.columns.specs.Kinds.{kind_of};
 ghost use Rattle.refusals.specs.declared.Verdict.TheVariants.{Refused};
@@ -13,7 +15,7 @@ use fields::primary::Leg;
 use refusals::{Refusal, Verdict};
 
 // What a record says. The 83 bytes of a continuation stand beside this.
-#[derive(Drop)]
+#[derive(Clone, Copy)]
 pub enum Parts {
     Nothing,
     Leg(Leg),
@@ -21,7 +23,7 @@ pub enum Parts {
 }
 
 // The answer of reading. What means nothing in it is 0: no parts and 83 zeros on a refusal, 83 zeros beside a leg.
-#[derive(Drop)]
+#[derive(Clone, Copy)]
 pub struct Reading {
     pub verdict: Verdict,
     pub parts: Parts,

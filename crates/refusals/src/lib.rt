@@ -1,5 +1,7 @@
 // Refusals: a number, a place and a column, as paper 01's table has them. A function for each of its cases makes the refusal, so that
 // a case's number, and what its place and column count, are said here alone. Assumes nothing of the caller.
+#![tactic(auto)]
+
 ghost use Rattle.std.specs.Prelude.{◌≡◌};
 ghost use Rattle.refusals.specs.Table.{
   refusal,
@@ -30,14 +32,14 @@ pub const MOST_RECORDS: usize = 480;
 
 const RECORD_TOO_MANY: usize = MOST_RECORDS + 1;
 
-#[derive(Drop)]
+#[derive(Clone, Copy)]
 pub struct Refusal {
     pub number: u8,
     pub place: usize,
     pub column: usize,
 }
 
-#[derive(Drop)]
+#[derive(Clone, Copy)]
 pub enum Verdict {
     Accepted,
     Refused(Refusal),

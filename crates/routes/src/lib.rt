@@ -1,5 +1,7 @@
 // Files and routes: records judged in sequence. A record is given by its source, the place of its 132 bytes in one of two slices, so a
 // file and a route of corrected records are judged by one walk. Assumes nothing of the caller: any slices, any sources.
+#![tactic(auto)]
+
 mod ahead;
 mod glance;
 pub mod known;
@@ -39,7 +41,7 @@ pub const LONGEST_FILE: usize = MOST_RECORDS * LINE_WIDTH;
 const FIRST_OF_LOG: u32 = 1000000;
 
 // Where records lie, at most 480 of them; zeros past the count.
-#[derive(Drop)]
+#[derive(Clone, Copy)]
 pub struct Sources {
     pub count: usize,
     pub at: [u32; MOST_RECORDS],

@@ -25,7 +25,7 @@ use refusals::{MOST_RECORDS, Refusal, Verdict};
 use routes::{Sources, sources_of};
 
 // Some numbers in rising order, with zeros past them.
-#[derive(Drop)]
+#[derive(Clone, Copy)]
 pub(crate) struct Members {
     pub count: usize,
     pub at: [u32; MOST_CORRECTIONS],

@@ -17,7 +17,7 @@ use routes::sources_of;
 use slices::least;
 
 // What is settled; the rest is nothing but zeros where that is a refusal.
-#[derive(Drop)]
+#[derive(Clone, Copy)]
 pub(crate) struct Chosen {
     pub failure: Failure,
     pub relied: [u32; MOST_CHANGES],

@@ -19,7 +19,7 @@ use refusals::Verdict;
 use routes::log_source;
 
 // A correction that relies on another one, and the source of the record whose line does; zeros where there is none.
-#[derive(Drop)]
+#[derive(Clone, Copy)]
 pub(crate) struct Naming {
     pub relying: u32,
     pub source: u32,

@@ -5,6 +5,8 @@
 // halves, and a correction has the records of the routes that it names compared with those before them; what a line relies on is looked for
 // backward, up to the last earlier line on its route. The reasons take one pass, and as many comparisons of two numbers as lines times
 // corrections taken (docs/PERFORMANCE.md).
+#![tactic(auto)]
+
 mod carry;
 mod choosing;
 mod explaining;
@@ -29,7 +31,7 @@ use routes::{LONGEST_FILE, Sources, record_at};
 
 // What a pick comes to. `count` is how many corrections are taken, `taken` their numbers in rising order, `records` where the records of the
 // new file lie; zeros past each count, and nothing but zeros on a refusal.
-#[derive(Drop)]
+#[derive(Clone, Copy)]
 pub struct Picked {
     pub verdict: Verdict,
     pub count: usize,
@@ -40,7 +42,7 @@ pub struct Picked {
 // Where a log fails: the verdict, and what is wrong where it is 10 or 11. For 10 `line` is the line of the log that can't be applied, counted
 // from 1, and `fault.at` the offset of its record; for 11 `fault` has the route that is refused, where its records lie, and its own refusal.
 // Nothing but zeros otherwise.
-#[derive(Drop)]
+#[derive(Clone, Copy)]
 pub struct Failure {
     pub verdict: Verdict,
     pub line: usize,
@@ -50,7 +52,7 @@ pub struct Failure {
 // Why corrections are taken. `count` is how many are, `taken` their numbers in rising order. Of each that is not wanted `relying` is the smallest
 // correction taken that relies on it directly, and `source` where the record lies of the first line of that one whose route it was the last
 // earlier correction to touch; both are 0 of one that is wanted. Zeros past the count, and nothing but zeros beside a refusal.
-#[derive(Drop)]
+#[derive(Clone, Copy)]
 pub struct Explained {
     pub failure: Failure,
     pub count: usize,

@@ -1,6 +1,8 @@
 // Reading, comparing and writing runs of bytes, at every place of every slice. A byte past a slice's end reads as 0, and a byte
 // that is put past it is dropped, so no public function here asks anything of its caller. Whether a run lies within its slice is tested
 // once, and then no byte of it is: the private functions for such runs ask that they do.
+#![tactic(auto)]
+
 mod words;
 
 ghost use Rattle.std.specs.Prelude.{◌≡◌, cond, ◌++◌, ◌+◌, ◌-◌, ◌≤◌, min, get_or, length, set, take, drop, replicate, leb, ltb};
@@ -11,7 +13,7 @@ ghost use Rattle.slices.specs.Search.{first_at, is_line_feed};
 
 use words::same_word;
 
-#[derive(Drop)]
+#[derive(Clone, Copy)]
 pub enum Ordering {
     Less,
     Equal,

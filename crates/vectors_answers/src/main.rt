@@ -7,6 +7,8 @@
 // folders.bin has for each folder three lengths, of four bytes each with the highest first, and then as many bytes of frozen.txt, of log.txt
 // and of want.txt. It is read folder by folder, so there may be any number of them; the first one whose lengths are not whole ends the run.
 // The folders and what is to be printed are made by the program in reference/.
+#![tactic(auto)]
+
 ghost use Rattle.std.specs.Prelude.{◌≤◌, length};
 
 use libc::STDOUT_FILENO;

@@ -2,6 +2,8 @@
 // of the bad byte in it, or 0 and 0.
 // At most 65,536 bytes are read. The lines are the records of the worked vectors that crates/columns proves; they and what is to be printed
 // are made by the program in reference/.
+#![tactic(auto)]
+
 use columns::Kind;
 use libc::STDOUT_FILENO;
 

@@ -7,6 +7,8 @@
 //   4, b, 0   one more byte
 //   5, 0, 0   behind a 0, 0, 0: the file begins as all of the one before it
 // The files and what is to be printed are made by the program in reference/.
+#![tactic(auto)]
+
 ghost use Rattle.std.specs.Prelude.{◌≤◌};
 
 use libc::STDOUT_FILENO;

@@ -10,6 +10,8 @@
 //   6, 0, 0   the list is whole, and the next text begins
 //   7, h, l   there are 256 h + l frozen records beside the log
 // The texts and what is to be printed are made by the program in reference/.
+#![tactic(auto)]
+
 ghost use Rattle.std.specs.Prelude.{◌≤◌, ◌<◌};
 
 use corrections::Index;

@@ -29,6 +29,8 @@
 //   12, 0, 0   the frozen file begins as all of that of the case before
 //   13, 0, 0   the log begins as all of that of the case before
 // The cases and what is to be printed are made by the program in reference/.
+#![tactic(auto)]
+
 ghost use Rattle.std.specs.Prelude.{◌≤◌, ◌<◌, ◌≡◌, length};
 
 use libc::STDOUT_FILENO;
@@ -308,7 +310,7 @@ fn numbers_within(n: usize, space: &[u32]) -> usize
 }
 
 // How much of each space a case fills, and the texts of the one before it; and its number.
-#[derive(Drop)]
+#[derive(Clone, Copy)]
 struct Filled {
     frozen: usize,
     frozen_before: usize,

@@ -4,6 +4,8 @@
 // Then, for these two records and for each of their 132 columns, what judging says of every byte in that column: the runs of bytes with
 // one answer, as FROM-TO:NUMBER:COLUMN, 0:0 for accepted.
 // The records and what is to be printed are made by the program in reference/.
+#![tactic(auto)]
+
 ghost use Rattle.std.specs.Prelude.{◌<◌, ◌≤◌, ◌+◌, length};
 
 use fields::continuation::Continuation;
@@ -257,10 +259,10 @@ fn try_continuation(k: usize, continuation: Continuation, content: [u8; 83]) {
 }
 
 // The parts of a leg that are changed together: arc radius to distance, and altitude to vertical angle.
-#[derive(Drop)]
+#[derive(Clone, Copy)]
 struct Flown(ArcRadius, Theta, Rho, Course, Distance);
 
-#[derive(Drop)]
+#[derive(Clone, Copy)]
 struct Heights(Altitude, Altitude, TransitionAltitude, Speed, VerticalAngle);
 
 fn flown_of(leg: Leg) -> Flown {

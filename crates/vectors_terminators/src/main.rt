@@ -3,6 +3,8 @@
 // put for that terminator. One that is refused otherwise than by 3 at column 48 has a line too: `no`, its bytes as numbers, and the refusal's number
 // and column. The last two lines count those that are accepted, and those that are refused by 3 at column 48.
 // The record and what is to be printed are made by the program in reference/.
+#![tactic(auto)]
+
 ghost use Rattle.std.specs.Prelude.{◌≤◌};
 
 use leg::terminator::Terminator;

@@ -1,11 +1,13 @@
 // The corrections that are wanted, as a list of numbers, one on each line. Assumes nothing of the caller: any bytes.
+#![tactic(auto)]
+
 ghost use Rattle.std.specs.Prelude.{◌≡◌, ◌+◌, drop};
 ghost use Rattle.wanted.specs.Numbers.{to_line_feed, number_at, wanted_of};
 
 use digits::{all_digits, number};
 
 // The numbers in their order, and zeros past the count.
-#[derive(Drop)]
+#[derive(Clone, Copy)]
 pub struct Wanted {
     pub count: usize,
     pub at: [u32; 201],

@@ -1,6 +1,8 @@
 // Reads `frozen.txt`, `log.txt` and `want.txt`, and prints why each correction is taken, or the refusal and what it is about. Of each file at
 // most one byte past its limit is read, so that one that is too long is seen to be. A program can't set its exit status: a write that fails
 // is told on standard error. Assumes nothing.
+#![tactic(auto)]
+
 use libc::STDOUT_FILENO;
 
 fn main() {

@@ -1,0 +1,12 @@
+-- Each field is read from its own columns. Assumes nothing.
+use mathlib.Core.Path.{sym, ◌∙◌}
+use Rattle.fields.specs.Quantities.{transition_altitude_of}
+use Rattle.fields.proofs.quantities.TransitionAltitude.of.Goals as goal
+
+pub returns-then-blank_in : goal.returns-then-blank_in
+unfolding transition_altitude_of
+returns-then-blank_in c = simp (sym c.blank_in.ensures ∙ c.if-blank_in.true)
+
+pub returns-else-blank_in : goal.returns-else-blank_in
+unfolding transition_altitude_of
+returns-else-blank_in c = simp (c.number_in.ensures, sym c.blank_in.ensures ∙ c.if-blank_in.false)

@@ -1,0 +1,33 @@
+-- The invariant: the lines that are left give the answer. Assumes nothing.
+use mathlib.Core.Path.{◌∙◌}
+use mathlib.Core.Logic.{⊎_elim}
+use Prim.Native.Nat.{◌-◌}
+use native.Mathlib.Nat.{zero-add}
+use Rattle.slices.proofs.SearchLaws.{starts, finds, goes_on, ends}
+use Rattle.routes.proofs.TableLaws.{by_type, other_subsection, nine_lines}
+use borrow.Author.Rules.{rules}
+use Rattle.routes.proofs.pairs.kind_among.Goals as goal
+
+pub loop-i-init : goal.loop-i-init
+loop-i-init c = (c.byte_at-subsection.ensures, c.byte_at-route_type.ensures, search rules, starts _ 0 _ 0)
+
+pub returns-then-route_type-has : goal.returns-then-route_type-has
+returns-then-route_type-has c =    let inv = c.loop-i.invariant in
+    finds _ 0 _ 0 _ inv.3 (rw nine_lines c.loop-i-test.true)
+    (by_type _ _ _ _ c.loop-i-test.true inv.0 inv.1 c.byte_at.ensures c.if-byte_at-subsection.true c.has.ensures c.if-route_type-has.true)
+    ∙ zero-add _
+
+pub loop-i-preserved : goal.loop-i-preserved
+loop-i-preserved c =    let inv = c.loop-i.invariant in (
+      inv.0,
+      inv.1,
+      search rules,
+      goes_on _ 0 _ 0 _ inv.3 (rw nine_lines c.loop-i-test.true)
+          (⊎_elim
+          (λ w. by_type _ _ _ _ c.loop-i-test.true inv.0 inv.1 c.byte_at.ensures w.0.taken w.1.ensures w.2.left)
+          (λ w. other_subsection _ _ _ _ c.loop-i-test.true inv.0 inv.1 c.byte_at.ensures w.left)
+          c.if-byte_at-subsection.branch),
+    )
+
+pub returns : goal.returns
+returns c = ends _ 0 _ 0 _ c.loop-i.invariant.3 (rw nine_lines c.loop-i-test.false) ∙ zero-add _

@@ -1,0 +1,11 @@
+-- The invariant: the table holds of the lines that were looked at. Assumes nothing.
+use Prim.Native.Nat.{◌-◌, ◌≤◌}
+use lib.ListN.{length}
+use Rattle.selection.proofs.MarkLaws.{Ends}
+use Rattle.selection.proofs.relied.ends_of.Given as goal
+
+abbrev pub invariant-loop-k : goal.invariant-loop-k
+invariant-loop-k l = (l.k ≤ length l.of) × Ends l.of l.ends l.k
+
+abbrev pub decreases-loop-k : goal.decreases-loop-k
+decreases-loop-k l = length l.of - l.k
