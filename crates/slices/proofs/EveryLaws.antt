@@ -25,6 +25,7 @@ every_at p (x ∷ xs) d (suc i) e h = every_at p xs d i (and_right (p x) (every 
 
 pub each_among : {A : Type 0} (p : A → Bool) (xs : List A) → every p xs ≡ true → (y : A) → Memᴰ y xs → p y ≡ true
 unfolding every
+each_among p [] e y m = elim m [ ]
 each_among p (x ∷ xs) e y (Memᴰ.head q) = subst (λ z. p z ≡ true) (sym q) (and_left (p x) (every p xs) e)
 each_among p (x ∷ xs) e y (Memᴰ.tail m) = each_among p xs (and_right (p x) (every p xs) e) y m
 

@@ -146,6 +146,7 @@ member_in b (x ∷ xs) e =
 
 in_member : (b : ℕ) (xs : List ℕ) → Memᴰ b xs → member b xs ≡ true
 unfolding member
+in_member b [] m = elim m [ ]
 in_member b (x ∷ xs) (Memᴰ.head e) = or_left (eqb x b) (member b xs) (eq-eqb x b (sym e))
 in_member b (x ∷ xs) (Memᴰ.tail m) = or_right (eqb x b) (member b xs) (in_member b xs m)
 

@@ -13,7 +13,7 @@ pub loop-k-preserved : goal.loop-k-preserved
 loop-k-preserved c =    (
       search rules,
       c.loop-k.invariant.1
-          ∙ comparing_on _ _ _ _ _ _ 8 c.loop-k-test.true (sym (is_true _ c.if-not-same_word.false) ∙ c.same_word.ensures),
+          ∙ comparing_on _ _ _ _ _ _ 8 c.loop-k-test.true (sym (c.if-not-same_word.false) ∙ c.same_word.ensures),
     )
 
 pub returns : goal.returns

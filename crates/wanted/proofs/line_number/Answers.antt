@@ -13,8 +13,8 @@ pub returns-then-n-gt3 : goal.returns-then-n-gt3
 returns-then-n-gt3 c = long_line _ _ c.requires c.if-text-end.false c.if-n-gt3.true
 
 pub returns-then-not-all_digits : goal.returns-then-not-all_digits
-returns-then-not-all_digits c =    no_digits _ _ c.requires c.if-text-end.false c.if-n-eq0.false c.if-n-gt3.false c.all_digits.ensures (is_false _ c.if-not-all_digits.true)
+returns-then-not-all_digits c =    no_digits _ _ c.requires c.if-text-end.false c.if-n-eq0.false c.if-n-gt3.false c.all_digits.ensures (c.if-not-all_digits.true)
 
 pub returns : goal.returns
-returns c =    all_are_digits _ _ c.requires c.if-text-end.false c.if-n-eq0.false c.if-n-gt3.false c.all_digits.ensures (is_true _ c.if-not-all_digits.false)
+returns c =    all_are_digits _ _ c.requires c.if-text-end.false c.if-n-eq0.false c.if-n-gt3.false c.all_digits.ensures (c.if-not-all_digits.false)
     c.number.ensures

@@ -21,7 +21,7 @@ pub loop-k-preserved : goal.loop-k-preserved
 loop-k-preserved c = let inv = c.loop-k.invariant in (
   omega (arith, inv.0),
   one_more (λ (j : ℕ). RouteStands c.args.frozen.now c.args.log.now (in_use (held c.args.count c.args.at.now)) (log_source (get_or c.args.offsets.now j 0))) _ _ inv.1
-      (c.line_stands.ensures (is_true _ c.if-not-line_stands.false) (λ h. inv.1 _ (omega arith) (omega arith))),
+      (c.line_stands.ensures (c.if-not-line_stands.false) (λ h. inv.1 _ (omega arith) (omega arith))),
 )
 
 pub returns : goal.returns

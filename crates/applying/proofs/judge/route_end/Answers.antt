@@ -11,11 +11,11 @@ pub loop-k-init : goal.loop-k-init
 loop-k-init c = (c.requires.0, refl)
 
 pub returns-then-not-same_route : goal.returns-then-not-same_route
-returns-then-not-same_route c = let stop = together_stop _ _ (held c.args.count c.args.at.now) c.requires.1.0 c.requires.1.1 _ _ c.loop-k-test.true c.same_route.ensures (is_false _ c.if-not-same_route.true) in
+returns-then-not-same_route c = let stop = together_stop _ _ (held c.args.count c.args.at.now) c.requires.1.0 c.requires.1.1 _ _ c.loop-k-test.true c.same_route.ensures (c.if-not-same_route.true) in
     omega (arith, c.loop-k.invariant.1, stop)
 
 pub loop-k-preserved : goal.loop-k-preserved
-loop-k-preserved c = let next = together_next _ _ (held c.args.count c.args.at.now) c.requires.1.0 c.requires.1.1 _ _ c.loop-k-test.true c.same_route.ensures (is_true _ c.if-not-same_route.false) in
+loop-k-preserved c = let next = together_next _ _ (held c.args.count c.args.at.now) c.requires.1.0 c.requires.1.1 _ _ c.loop-k-test.true c.same_route.ensures (c.if-not-same_route.false) in
     (omega (arith, c.loop-k-test.true), omega (arith, c.loop-k.invariant.1, next))
 
 pub returns : goal.returns

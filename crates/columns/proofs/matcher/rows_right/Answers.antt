@@ -18,7 +18,7 @@ returns-then-not-fits_row c = λ e. absurd (false≢true e)
 pub loop-i-preserved : goal.loop-i-preserved
 loop-i-preserved c =    (
       search rules,
-      rows_next _ _ _ _ _ c.loop-i.invariant.1 c.byte_at-w.ensures c.byte_at-n.ensures c.fits_row.ensures (is_true _ c.if-not-fits_row.false),
+      rows_next _ _ _ _ _ c.loop-i.invariant.1 c.byte_at-w.ensures c.byte_at-n.ensures c.fits_row.ensures (c.if-not-fits_row.false),
     )
 
 pub returns : goal.returns

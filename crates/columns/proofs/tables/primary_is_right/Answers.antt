@@ -16,4 +16,4 @@ returns-then-not-columns_taken c = λ e. absurd (false≢true e)
 
 pub returns : goal.returns
 unfolding covers primary neighbours joined lines
-returns c =    λ e. quick_right neighbours _ _ _ _ refl refl c.requires (c.columns_taken.ensures (is_true _ c.if-not-columns_taken.false)) (c.rows_right.ensures e)
+returns c =    λ e. quick_right neighbours _ _ _ _ refl refl c.requires (c.columns_taken.ensures (c.if-not-columns_taken.false)) (c.rows_right.ensures e)

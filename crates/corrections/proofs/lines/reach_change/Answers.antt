@@ -13,14 +13,14 @@ loop-k-init c = (search rules, along_start _ _ _)
 pub returns-then-not-change_allows : goal.returns-then-not-change_allows
 returns-then-not-change_allows c =    sym (c.loop-k.invariant.1
     ∙ change_stop _ _ _ _ c.requires.1 c.loop-k-test.true c.byte_at.ensures
-    c.change_allows.ensures (is_false _ c.if-not-change_allows.true))
+    c.change_allows.ensures (c.if-not-change_allows.true))
 
 pub loop-k-preserved : goal.loop-k-preserved
 loop-k-preserved c =    (
       search rules,
       c.loop-k.invariant.1
           ∙ change_next _ _ _ _ c.requires.1 c.loop-k-test.true c.byte_at.ensures
-          c.change_allows.ensures (is_true _ c.if-not-change_allows.false),
+          c.change_allows.ensures (c.if-not-change_allows.false),
     )
 
 pub returns : goal.returns

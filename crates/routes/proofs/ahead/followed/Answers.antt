@@ -12,20 +12,20 @@ loop-i-init c = (search rules, following_start _ _ _ _ _ _)
 
 pub returns-then-not-same : goal.returns-then-not-same
 returns-then-not-same c =    let inv = c.loop-i.invariant in
-    sym (inv.1 ∙ following_stop _ _ _ _ _ _ (omega arith) c.record_at-next.ensures c.same.ensures (is_false _ c.if-not-same.true))
+    sym (inv.1 ∙ following_stop _ _ _ _ _ _ (omega arith) c.record_at-next.ensures c.same.ensures (c.if-not-same.true))
 
 pub returns-in-Primary : goal.returns-in-Primary
 returns-in-Primary c =    let inv = c.loop-i.invariant in
     sym
     (inv.1
-    ∙ following_found _ _ _ _ _ _ (omega arith) c.record_at-next.ensures c.same.ensures (is_true _ c.if-not-same.false) c.kind_of-kind.ensures
+    ∙ following_found _ _ _ _ _ _ (omega arith) c.record_at-next.ensures c.same.ensures (c.if-not-same.false) c.kind_of-kind.ensures
     c.in-Primary.is)
 
 pub loop-i-preserved : goal.loop-i-preserved
 loop-i-preserved c =    let inv = c.loop-i.invariant in (
       search rules,
       inv.1
-          ∙ following_next _ _ _ _ _ _ (omega arith) c.record_at-next.ensures c.same.ensures (is_true _ c.if-not-same.false) c.kind_of-kind.ensures
+          ∙ following_next _ _ _ _ _ _ (omega arith) c.record_at-next.ensures c.same.ensures (c.if-not-same.false) c.kind_of-kind.ensures
           c.in-Continuation.is,
     )
 

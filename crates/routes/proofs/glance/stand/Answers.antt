@@ -24,5 +24,5 @@ unfolding pairs_table
 stand_behind-requires c =    (pairs_table_lem, c.kind_number-kind.ensures.0, c.kind_number-kind.ensures.1, c.of-leg.ensures)
 
 pub returns : goal.returns
-returns c e =    stands _ _ _ _ _ _ (omega (arith, c.if-least-from.false, c.least.ensures)) (sym c.knows.ensures ∙ is_true _ c.if-not-knows.false) c.record_at-first.ensures
-    (c.begins.ensures (is_true _ c.if-not-begins.false)) (c.stand_behind.ensures e)
+returns c e =    stands _ _ _ _ _ _ (omega (arith, c.if-least-from.false, c.least.ensures)) (sym c.knows.ensures ∙ c.if-not-knows.false) c.record_at-first.ensures
+    (c.begins.ensures (c.if-not-begins.false)) (c.stand_behind.ensures e)

@@ -24,7 +24,7 @@ returns-then-not-follows c e = absurd (false≢true e)
 
 pub loop-i-preserved : goal.loop-i-preserved
 loop-i-preserved c =    let inv = c.loop-i.invariant in
-    let stands = c.follows.ensures (is_true _ c.if-not-follows.false) in (
+    let stands = c.follows.ensures (c.if-not-follows.false) in (
       search rules,
       inv.1,
       inv.2,
@@ -32,7 +32,7 @@ loop-i-preserved c =    let inv = c.loop-i.invariant in
       c.of-next.ensures,
       λ t.
           inv.5
-          (standing_next _ _ _ _ _ _ _ (omega arith) c.record_at-rec.ensures (sym c.knows.ensures ∙ is_true _ c.if-not-knows.false) stands t),
+          (standing_next _ _ _ _ _ _ _ (omega arith) c.record_at-rec.ensures (sym c.knows.ensures ∙ c.if-not-knows.false) stands t),
     )
 
 pub returns : goal.returns

@@ -6,11 +6,11 @@ use Rattle.routes.proofs.stages.ending_stage.Goals as goal
 
 pub returns-then-not-last_leg : goal.returns-then-not-last_leg
 unfolding ending_stage
-returns-then-not-last_leg c =    rw (c.leg_ending.ensures, c.if-last.true, sym c.last_leg.ensures ∙ is_false _ c.if-not-last_leg.true)
+returns-then-not-last_leg c =    rw (c.leg_ending.ensures, c.if-last.true, sym c.last_leg.ensures ∙ c.if-not-last_leg.true)
 
 pub returns-else-not-last_leg : goal.returns-else-not-last_leg
 unfolding ending_stage
-returns-else-not-last_leg c = rw (c.if-last.true, sym c.last_leg.ensures ∙ is_true _ c.if-not-last_leg.false)
+returns-else-not-last_leg c = rw (c.if-last.true, sym c.last_leg.ensures ∙ c.if-not-last_leg.false)
 
 pub returns-else-last : goal.returns-else-last
 unfolding ending_stage
