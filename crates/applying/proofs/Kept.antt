@@ -13,7 +13,7 @@ use Rattle.routes.specs.Legal.{Wide}
 use Rattle.routes.specs.Places.{place_of, Every}
 use Rattle.history.specs.Format as H
 use Rattle.history.specs.Bytes.{same?, before?}
-use Rattle.history.specs.Apply.{Op, take_out, put_in, Correction, taken_out, put_in, apply, apply_all, touched_accepted, correct, run}
+use Rattle.history.specs.Apply.{Op, take_out, put_in, Correction, taken_out, put_into, apply, apply_all, touched_accepted, correct, run}
 use Rattle.history.specs.Sets.{Numbers, choose_from}
 use Rattle.history.proofs.Cases as C
 use Rattle.history.proofs.Cases.{ite_case, cond_case, every_then}
@@ -75,14 +75,14 @@ few_taken r (x ∷ rs) w =
     ite_case (C.Every (Few (suc (length rs)))) (same? r x) (λ _. (w.1, omega arith))
     (λ _. few_push (length rs) x (taken_out procedures r rs) w.0 (few_taken r rs w.1))
 
-few_put : (r : List ℕ) (rs : List (List ℕ)) → Wide r → Every Wide rs → C.Every (Few (suc (length rs))) (put_in procedures r rs)
-unfolding put_in C.Every
+few_put : (r : List ℕ) (rs : List (List ℕ)) → Wide r → Every Wide rs → C.Every (Few (suc (length rs))) (put_into procedures r rs)
+unfolding put_into C.Every
 few_put r [] v w = ((v, tt), omega arith)
 few_put r (x ∷ rs) v w =
     ite_case (C.Every (Few (suc (suc (length rs))))) (before? (place_of r) (place_of x)) (λ _. ((v, w), omega arith))
     (λ _.
     ite_case (C.Every (Few (suc (suc (length rs))))) (before? (place_of x) (place_of r))
-    (λ _. few_push (suc (length rs)) x (put_in procedures r rs) w.0 (few_put r rs v w.1)) (λ _. tt))
+    (λ _. few_push (suc (length rs)) x (put_into procedures r rs) w.0 (few_put r rs v w.1)) (λ _. tt))
 
 few_apply : (o : Op (List ℕ)) (rs : List (List ℕ)) → Wide (record_in o) → Every Wide rs → C.Every (Few (adds o + length rs)) (apply procedures o rs)
 unfolding apply

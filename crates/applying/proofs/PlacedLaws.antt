@@ -22,7 +22,7 @@ use Rattle.routes.specs.Legal.{Wide}
 use Rattle.routes.specs.Places.{place_of, Every}
 use Rattle.routes.specs.Sources.{record_at}
 use Rattle.history.specs.Format as H
-use Rattle.history.specs.Apply.{taken_out, put_in}
+use Rattle.history.specs.Apply.{taken_out, put_into}
 use Rattle.history.proofs.Local.{taken_here, taken_there, put_here, put_there, put_full, above_trans}
 use Rattle.applying.specs.State.{not_less, put_at, left_out, not_before, count_before, has_place, is_record, with_source, without_record}
 use Rattle.applying.specs.Procedures.{procedures}
@@ -83,8 +83,8 @@ module _ (f l : List ℕ) where
     placed_here e = rw (e, e)
 
   -- one more source is one more record in its place
-  placed_records : (s : ℕ) (xs : List ℕ) → Option.map (records_of f l) (placed_in s xs) ≡ put_in procedures (record_at f l s) (records_of f l xs)
-  unfolding compared placed_in count_before first_at has_place put_at put_in
+  placed_records : (s : ℕ) (xs : List ℕ) → Option.map (records_of f l) (placed_in s xs) ≡ put_into procedures (record_at f l s) (records_of f l xs)
+  unfolding compared placed_in count_before first_at has_place put_at put_into
   placed_records s [] = refl
   placed_records s (x ∷ xs) = by (compared s x xs) refl (placed_records s xs)
     where
@@ -94,8 +94,8 @@ module _ (f l : List ℕ) where
       y : List ℕ
       y = record_at f l x
 
-      by : (o : Ordering) → order (place_of y) (place_of r) ≡ o → Option.map (records_of f l) (placed_in s xs) ≡ put_in procedures r (records_of f l xs)
-          → Option.map (records_of f l) (placed_in s (x ∷ xs)) ≡ put_in procedures r (y ∷ records_of f l xs)
+      by : (o : Ordering) → order (place_of y) (place_of r) ≡ o → Option.map (records_of f l) (placed_in s xs) ≡ put_into procedures r (records_of f l xs)
+          → Option.map (records_of f l) (placed_in s (x ∷ xs)) ≡ put_into procedures r (y ∷ records_of f l xs)
       by Less e ih =
           ap (Option.map (records_of f l)) (placed_later s x xs e) ∙ pushed x (placed_in s xs)
           ∙ ap (Option.map (λ (g : List (List ℕ)). y ∷ g)) ih ∙ sym (put_there procedures r y (records_of f l xs) e)
@@ -110,7 +110,7 @@ module _ (f l : List ℕ) where
           ∙ sym (put_here procedures r y (records_of f l xs) (order_turned (place_of y) (place_of r) ∙ ap turned e))
 
   pub put_records : (s : ℕ) (xs : List ℕ) → length xs < 480
-      → Option.map (records_of f l) (with_source f l s xs) ≡ put_in procedures (record_at f l s) (records_of f l xs)
+      → Option.map (records_of f l) (with_source f l s xs) ≡ put_into procedures (record_at f l s) (records_of f l xs)
   unfolding with_source placed_in
   put_records s xs h = rw (lt-leb 480 (length xs) h) (placed_records s xs)
 

@@ -14,7 +14,7 @@ use Rattle.history.specs.Format.{Format}
 use Rattle.history.specs.Bytes.{of_bytes}
 use Rattle.history.specs.Apply.{Op, take_out, put_in, Correction}
 use Rattle.corrections.specs.Reading.{Entry}
-use Rattle.corrections.specs.Text.{Change, takeOut, put_in, LegalLog}
+use Rattle.corrections.specs.Text.{Change, takes_out, puts_in, LegalLog}
 use Rattle.applying.specs.Apply.{record_of_line}
 
 abbrev pub is_accepted : Verdict → Bool
@@ -46,8 +46,8 @@ module _ (frozen log : List ℕ) where
 
 -- what a log says of a record, in the words of the theory
 unfoldable pub op_of : Change → Op (List ℕ)
-op_of (takeOut r) = take_out r
-op_of (put_in r) = put_in r
+op_of (takes_out r) = take_out r
+op_of (puts_in r) = put_in r
 
 -- the corrections of a legal log
 abbrev pub log_of : {log : List ℕ} {frozen : ℕ} → LegalLog log frozen → List (Correction procedures)

@@ -11,7 +11,7 @@ use Rattle.corrections.specs.declared.lines.Line.{Line}
 use Rattle.corrections.specs.declared.lines.Line.TheVariants.{Heading, TakenOut, PutIn, Stopped}
 use Rattle.corrections.specs.Lines.{heading, forms, longest, line_of}
 use Rattle.corrections.specs.Reading.{begun_after, width_of}
-use Rattle.corrections.specs.Text.{takeOut, put_in, LegalLine, begins, changes, Complete, Begins}
+use Rattle.corrections.specs.Text.{takes_out, puts_in, LegalLine, begins, changes, Complete, Begins}
 use Rattle.corrections.proofs.FrontLaws.{heading_front, change_front}
 use Rattle.corrections.proofs.ReadBack.{heading_length}
 use Rattle.corrections.proofs.StopLaws.{longest_within, longest_begins, begins_longest}
@@ -41,10 +41,10 @@ stands : {begun : ℕ} {l : List ℕ} {after : ℕ} → LegalLine begun l after 
 unfolding column_of line_for
 stands {begun} begins rest =
     let e = heading_found begun rest in record { whole = rw e; wide = rw e (sym (heading_length (begun + 1))); begun_then = rw e }
-stands {begun} (changes b (takeOut r) s) rest =
-    let e = change_found begun rest b (takeOut r) s in record { whole = rw e; wide = rw e (sym (change_length (takeOut r) s)); begun_then = rw e }
-stands {begun} (changes b (put_in r) s) rest =
-    let e = change_found begun rest b (put_in r) s in record { whole = rw e; wide = rw e (sym (change_length (put_in r) s)); begun_then = rw e }
+stands {begun} (changes b (takes_out r) s) rest =
+    let e = change_found begun rest b (takes_out r) s in record { whole = rw e; wide = rw e (sym (change_length (takes_out r) s)); begun_then = rw e }
+stands {begun} (changes b (puts_in r) s) rest =
+    let e = change_found begun rest b (puts_in r) s in record { whole = rw e; wide = rw e (sym (change_length (puts_in r) s)); begun_then = rw e }
 
 pub not_stopped : {begun : ℕ} {l : List ℕ} {after column : ℕ} → LegalLine begun l after → (rest : List ℕ)
     → line_of begun (l ++ rest) ≡ Stopped column → ⊥
@@ -114,8 +114,8 @@ front_of begun bs = by (line_of begun bs) (found begun bs) refl
   where
     by : (l : Line) → Found begun bs l → line_of begun bs ≡ l → InFront begun bs
     by Heading (headed h) e = complete (drop (length (heading (begun + 1))) bs) begins (heading_front (begun + 1) bs h)
-    by TakenOut (taken b h) e = let w = change_front 68 bs h in complete (drop 135 bs) (changes b (takeOut w.0) (w.2, w.3)) w.1
-    by PutIn (put b h) e = let w = change_front 65 bs h in complete (drop 135 bs) (changes b (put_in w.0) (w.2, w.3)) w.1
+    by TakenOut (taken b h) e = let w = change_front 68 bs h in complete (drop 135 bs) (changes b (takes_out w.0) (w.2, w.3)) w.1
+    by PutIn (put b h) e = let w = change_front 65 bs h in complete (drop 135 bs) (changes b (puts_in w.0) (w.2, w.3)) w.1
     by _ (stopped h g) e = incomplete e
 
 -- bytes that go on as long as they can and are no line stop behind the last of them

@@ -11,7 +11,7 @@ use borrow.Author.Tests.{eq-eqb, ne_eqb}
 use Rattle.slices.proofs.Cases.{split}
 use Rattle.corrections.specs.Lines.{heading}
 use Rattle.corrections.specs.Reading.{Entry, entry, read_log}
-use Rattle.corrections.specs.Text.{Change, takeOut, put_in, letter_of, change_text, heading_text, Sound, changes_text, log_text, EverySound, AllSound, all_puts, LegalLog, change_at, of_correction, corrections_in, corrections_of}
+use Rattle.corrections.specs.Text.{Change, takes_out, puts_in, letter_of, change_text, heading_text, Sound, changes_text, log_text, EverySound, AllSound, all_puts, LegalLog, change_at, of_correction, corrections_in, corrections_of}
 use Rattle.corrections.proofs.FormLaws.{fits_length, fits_heading}
 use Rattle.corrections.proofs.TextLaws.{entries_from, entries_in, groups, change_length, text_read}
 
@@ -28,10 +28,10 @@ record_back log front rest r letter n e =
 change_back : (log front rest : List ℕ) (x : Change) (begun at : ℕ) → Sound x → at ≡ length front → log ≡ front ++ (change_text x ++ rest)
     → change_at log (entry (letter_of x) (at + 2) begun) ≡ x
 unfolding change_at
-change_back log front rest (takeOut r) begun at s a e =
-    rw a (ap takeOut (record_back log front rest r 68 s.0 (e ∙ ap (λ (x : List ℕ). front ++ 68 ∷ 9 ∷ x) (append_assoc r (10 ∷ []) rest))))
-change_back log front rest (put_in r) begun at s a e =
-    rw a (ap put_in (record_back log front rest r 65 s.0 (e ∙ ap (λ (x : List ℕ). front ++ 65 ∷ 9 ∷ x) (append_assoc r (10 ∷ []) rest))))
+change_back log front rest (takes_out r) begun at s a e =
+    rw a (ap takes_out (record_back log front rest r 68 s.0 (e ∙ ap (λ (x : List ℕ). front ++ 68 ∷ 9 ∷ x) (append_assoc r (10 ∷ []) rest))))
+change_back log front rest (puts_in r) begun at s a e =
+    rw a (ap puts_in (record_back log front rest r 65 s.0 (e ∙ ap (λ (x : List ℕ). front ++ 65 ∷ 9 ∷ x) (append_assoc r (10 ∷ []) rest))))
 
 -- a text in front moves a line on
 moved : (log front l rest : List ℕ) → log ≡ front ++ (l ++ rest) → log ≡ (front ++ l) ++ rest

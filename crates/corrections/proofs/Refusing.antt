@@ -17,7 +17,7 @@ use Rattle.corrections.specs.declared.lines.Line.{Line}
 use Rattle.corrections.specs.declared.lines.Line.TheVariants.{Heading, PutIn, Stopped}
 use Rattle.corrections.specs.Lines.{heading, forms, longest, line_of}
 use Rattle.corrections.specs.Reading.{Entry, entry, refused, line_verdict, with_entries, read}
-use Rattle.corrections.specs.Text.{takeOut, put_in, letter_of, heading_text, change_text, is_put, LegalLine, begins, changes, Complete, Begins}
+use Rattle.corrections.specs.Text.{takes_out, puts_in, letter_of, heading_text, change_text, is_put, LegalLine, begins, changes, Complete, Begins}
 use Rattle.corrections.specs.Text.{GoesWrong, here, ends, later, puts_of, OneTooMany, too_many, GoesPast, front, behind}
 use Rattle.corrections.proofs.FrontLaws.{not_said, same_refusal, refused_rest}
 use Rattle.corrections.proofs.StopLaws.{longest_within, longest_begins, begins_longest}
@@ -52,9 +52,9 @@ module _ {begun : ℕ} where
   read_past most line room at begins rest o =
       line_refused most line begun room at (heading_text (begun + 1) ++ rest) Heading (omega arith) (heading_found begun rest)
       (rw (le-ltb begun 200 (omega arith)))
-  read_past most line room at (changes b (takeOut r) s) rest o = absurd (not-suc-le-zero o)
-  read_past most line room at (changes b (put_in r) s) rest o =
-      line_refused most line begun room at (change_text (put_in r) ++ rest) PutIn (omega arith) (change_found begun rest b (put_in r) s)
+  read_past most line room at (changes b (takes_out r) s) rest o = absurd (not-suc-le-zero o)
+  read_past most line room at (changes b (puts_in r) s) rest o =
+      line_refused most line begun room at (change_text (puts_in r) ++ rest) PutIn (omega arith) (change_found begun rest b (puts_in r) s)
       (rw (eq-eqb room 0 (omega arith)))
 
   -- any other is read, and then the rest

@@ -14,7 +14,7 @@ use Rattle.corrections.specs.declared.lines.Line.{Line}
 use Rattle.corrections.specs.declared.lines.Line.TheVariants.{Heading, TakenOut, PutIn}
 use Rattle.corrections.specs.Lines.{heading, whole, line_of}
 use Rattle.corrections.specs.Reading.{Entry, entry, said, line_verdict, begun_after, room_after, width_of, entries_of, before, read, read_log}
-use Rattle.corrections.specs.Text.{Change, takeOut, put_in, change_text, heading_text, Sound, changes_text, log_text, EverySound, AllSound, is_put, puts, all_puts, LegalLog}
+use Rattle.corrections.specs.Text.{Change, takes_out, puts_in, change_text, heading_text, Sound, changes_text, log_text, EverySound, AllSound, is_put, puts, all_puts, LegalLog}
 use Rattle.corrections.proofs.ReachLaws.{heading_short}
 use Rattle.corrections.proofs.Turns.{Found, headed, taken, put, stopped, found}
 use Rattle.corrections.proofs.FrontLaws.{heading_front, change_front, not_said, same_number, said_rest, shorter}
@@ -94,14 +94,14 @@ line_spelled most ih line begun room at bs n es Heading b (headed h) k e =
 line_spelled most ih line begun room at bs n es TakenOut b (taken z h) k e =
     let q = change_front 68 bs h in
     let w = said_rest (entry 68 (at + 2) begun ∷ []) _ n es e in
-    change_spelled begun room bs n z (takeOut q.0) (q.2, q.3) q.1 room (omega arith)
+    change_spelled begun room bs n z (takes_out q.0) (q.2, q.3) q.1 room (omega arith)
     (ih (line + 1) begun room (at + 135) (drop 135 bs) n w.0 b (shorter bs 135 most (omega arith) k) w.1)
 line_spelled most ih line begun room at bs n es PutIn b (put z h) k e =
     let q = change_front 65 bs h in
     split (eqb room 0) (λ t. absurd (not_said (rw t at e)))
     (λ t. let w = said_rest (entry 65 (at + 2) begun ∷ []) _ n es (rw t at e) in
     let some : room ≡ 0 → ⊥ = eqb-false room 0 t in
-    change_spelled begun room bs n z (put_in q.0) (q.2, q.3) q.1 (room - 1) (omega arith)
+    change_spelled begun room bs n z (puts_in q.0) (q.2, q.3) q.1 (room - 1) (omega arith)
     (ih (line + 1) begun (room - 1) (at + 135) (drop 135 bs) n w.0 b (shorter bs 135 most (omega arith) k) w.1))
 line_spelled most ih line begun room at bs n es _ b (stopped h g) k e = absurd (not_said e)
 

@@ -11,7 +11,7 @@ use lib.ListN.{length, take}
 use borrow.Author.Tests.{eq-eqb, ne_eqb}
 use Rattle.slices.proofs.Cases.{split}
 use Rattle.corrections.specs.Lines.{Span, exactly, printable, allows, Form, heading, change, forms, reach, longest}
-use Rattle.corrections.specs.Text.{Change, takeOut, put_in, letter_of, LegalLine, begins, changes, Begins}
+use Rattle.corrections.specs.Text.{Change, takes_out, puts_in, letter_of, LegalLine, begins, changes, Begins}
 use Rattle.corrections.proofs.ReachLaws.{reach_length}
 use Rattle.corrections.proofs.FormLaws.{Fits, fits_heading, heading_fits, fits_change, change_fits}
 
@@ -62,12 +62,12 @@ module _ (begun : ℕ) (xs : List ℕ) where
   taken_begins : (begun ≡ 0 → ⊥) → Starts (change 68) xs → Begins begun xs
   taken_begins b w =
       let q = change_fits 68 (xs ++ w.0) w.1 in
-      (w.0, begun, subst (λ (l : List ℕ). LegalLine begun l begun) (sym q.1) (changes b (takeOut q.0) (q.2, q.3)))
+      (w.0, begun, subst (λ (l : List ℕ). LegalLine begun l begun) (sym q.1) (changes b (takes_out q.0) (q.2, q.3)))
 
   put_begins : (begun ≡ 0 → ⊥) → Starts (change 65) xs → Begins begun xs
   put_begins b w =
       let q = change_fits 65 (xs ++ w.0) w.1 in
-      (w.0, begun, subst (λ (l : List ℕ). LegalLine begun l begun) (sym q.1) (changes b (put_in q.0) (q.2, q.3)))
+      (w.0, begun, subst (λ (l : List ℕ). LegalLine begun l begun) (sym q.1) (changes b (puts_in q.0) (q.2, q.3)))
 
 -- the ways in which some bytes begin a line
 data Ways (begun : ℕ) (xs : List ℕ) : Type 0 where
@@ -118,5 +118,5 @@ module _ (begun : ℕ) (bs : List ℕ) where
           split_begun : Dec (begun ≡ 0) → n ≤ longest (forms begun) bs
           split_begun (yes z) = omega (arith, longest_none z, starts_reach (heading (begun + 1)) bs n h s)
           split_begun (no b) = omega (arith, longest_all b, starts_reach (heading (begun + 1)) bs n h s)
-      by (changed b (takeOut r) s) = omega (arith, longest_all b, starts_reach (change 68) bs n h s)
-      by (changed b (put_in r) s) = omega (arith, longest_all b, starts_reach (change 65) bs n h s)
+      by (changed b (takes_out r) s) = omega (arith, longest_all b, starts_reach (change 68) bs n h s)
+      by (changed b (puts_in r) s) = omega (arith, longest_all b, starts_reach (change 65) bs n h s)

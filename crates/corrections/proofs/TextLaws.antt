@@ -15,7 +15,7 @@ use Rattle.corrections.specs.declared.lines.Line.{Line}
 use Rattle.corrections.specs.declared.lines.Line.TheVariants.{Heading, TakenOut, PutIn}
 use Rattle.corrections.specs.Lines.{exactly, ended, heading, change, reach, whole, line_of}
 use Rattle.corrections.specs.Reading.{Entry, entry, Reading, refused, said, line_verdict, begun_after, room_after, width_of, entries_of, with_entries, read, read_log}
-use Rattle.corrections.specs.Text.{Change, takeOut, put_in, letter_of, change_text, heading_text, Sound, changes_text, log_text, EverySound, AllSound, is_put, puts, all_puts}
+use Rattle.corrections.specs.Text.{Change, takes_out, puts_in, letter_of, change_text, heading_text, Sound, changes_text, log_text, EverySound, AllSound, is_put, puts, all_puts}
 use Rattle.corrections.proofs.ReachLaws.{change_width}
 use Rattle.corrections.proofs.FormLaws.{fits_length, fits_whole, fits_heading, fits_change}
 use Rattle.corrections.proofs.Turns.{read_end}
@@ -52,8 +52,8 @@ read_line most line begun room at bs l n e v = rw (ne_eqb (length bs) 0 n, e, v)
 
 -- the line that a change is read as
 unfoldable pub line_for : Change → Line
-line_for (takeOut r) = TakenOut
-line_for (put_in r) = PutIn
+line_for (takes_out r) = TakenOut
+line_for (puts_in r) = PutIn
 
 -- a legal line is found, whatever stands behind it
 module _ (begun : ℕ) (rest : List ℕ) where
@@ -63,19 +63,19 @@ module _ (begun : ℕ) (rest : List ℕ) where
 
   not_heading : (x : Change) → whole (heading (begun + 1)) (change_text x ++ rest) ≡ false
   unfolding whole reach heading
-  not_heading (takeOut r) = eqb-zero-suc (suc (length (map exactly (decimal (begun + 1)) ++ ended)))
-  not_heading (put_in r) = eqb-zero-suc (suc (length (map exactly (decimal (begun + 1)) ++ ended)))
+  not_heading (takes_out r) = eqb-zero-suc (suc (length (map exactly (decimal (begun + 1)) ++ ended)))
+  not_heading (puts_in r) = eqb-zero-suc (suc (length (map exactly (decimal (begun + 1)) ++ ended)))
 
-  not_taken : (r : List ℕ) → whole (change 68) (change_text (put_in r) ++ rest) ≡ false
+  not_taken : (r : List ℕ) → whole (change 68) (change_text (puts_in r) ++ rest) ≡ false
   unfolding whole reach change
   not_taken r = refl
 
   pub change_found : (begun ≡ 0 → ⊥) → (x : Change) → Sound x → line_of begun (change_text x ++ rest) ≡ line_for x
   unfolding line_of line_for
-  change_found b (takeOut r) s =
-      rw (not_heading (takeOut r), ne_eqb begun 0 b, fits_whole (change 68) (change_text (takeOut r)) rest (fits_change (takeOut r) s))
-  change_found b (put_in r) s =
-      rw (not_heading (put_in r), ne_eqb begun 0 b, not_taken r, fits_whole (change 65) (change_text (put_in r)) rest (fits_change (put_in r) s))
+  change_found b (takes_out r) s =
+      rw (not_heading (takes_out r), ne_eqb begun 0 b, fits_whole (change 68) (change_text (takes_out r)) rest (fits_change (takes_out r) s))
+  change_found b (puts_in r) s =
+      rw (not_heading (puts_in r), ne_eqb begun 0 b, not_taken r, fits_whole (change 65) (change_text (puts_in r)) rest (fits_change (puts_in r) s))
 
 pub with_none : (rest : Reading) → with_entries [] rest ≡ rest
 with_none (refused r) = refl
@@ -93,14 +93,14 @@ pub change_read : (most line begun room at : ℕ) (x : Change) (rest : List ℕ)
     → read (suc most) line begun room at (change_text x ++ rest)
     ≡ with_entries (entry (letter_of x) (at + 2) begun ∷ []) (read most (line + 1) begun (room - is_put x) (at + 135) rest)
 unfolding line_for
-change_read most line begun room at (takeOut r) rest s b h =
+change_read most line begun room at (takes_out r) rest s b h =
     let z : room - 0 ≡ room = omega arith in
-    read_line most line begun room at (change_text (takeOut r) ++ rest) TakenOut (λ q. absurd (omega arith)) (change_found begun rest b (takeOut r) s) refl
-    ∙ rw (drop_at (change_text (takeOut r)) rest 135 (change_length (takeOut r) s), z)
-change_read most line begun room at (put_in r) rest s b h =
-    read_line most line begun room at (change_text (put_in r) ++ rest) PutIn (λ q. absurd (omega arith)) (change_found begun rest b (put_in r) s)
+    read_line most line begun room at (change_text (takes_out r) ++ rest) TakenOut (λ q. absurd (omega arith)) (change_found begun rest b (takes_out r) s) refl
+    ∙ rw (drop_at (change_text (takes_out r)) rest 135 (change_length (takes_out r) s), z)
+change_read most line begun room at (puts_in r) rest s b h =
+    read_line most line begun room at (change_text (puts_in r) ++ rest) PutIn (λ q. absurd (omega arith)) (change_found begun rest b (puts_in r) s)
     (rw (ne_eqb room 0 (λ (q : room ≡ 0). omega arith)))
-    ∙ rw (drop_at (change_text (put_in r)) rest 135 (change_length (put_in r) s))
+    ∙ rw (drop_at (change_text (puts_in r)) rest 135 (change_length (puts_in r) s))
 
 -- changes are read one after the other
 changes_read : (xs : List Change) (rest : List ℕ) (most line begun room at : ℕ) → EverySound xs → (begun ≡ 0 → ⊥) → puts xs ≤ room

@@ -10,15 +10,15 @@ use Rattle.corrections.specs.Reading.{Entry, Reading, refused, said}
 
 -- a record is taken out, or put in
 pub data Change : Type 0 where
-  takeOut put_in : List ℕ → Change
+  takes_out puts_in : List ℕ → Change
 
 abbrev pub record_of : Change → List ℕ
-record_of (takeOut r) = r
-record_of (put_in r) = r
+record_of (takes_out r) = r
+record_of (puts_in r) = r
 
 abbrev pub letter_of : Change → ℕ
-letter_of (takeOut r) = 68
-letter_of (put_in r) = 65
+letter_of (takes_out r) = 68
+letter_of (puts_in r) = 65
 
 -- "`D`, tab, 132 bytes", "`A`, tab, 132 bytes", "each line ended by a line feed"
 abbrev pub change_text : Change → List ℕ
@@ -62,8 +62,8 @@ AllSound (c ∷ cs) = EverySound c × AllSound cs
 
 -- how many A lines they have
 abbrev pub is_put : Change → ℕ
-is_put (takeOut r) = 0
-is_put (put_in r) = 1
+is_put (takes_out r) = 0
+is_put (puts_in r) = 1
 
 unfoldable pub puts : List Change → ℕ
 puts [] = 0
@@ -142,7 +142,7 @@ pub data RefusedLog (log : List ℕ) (frozen : ℕ) : Refusal → Type 0 where
 
 -- the change of a line: its letter, and the 132 bytes at its offset
 unfoldable pub change_at : List ℕ → Entry → Change
-change_at log e = cond (eqb e.letter 65) (put_in (take 132 (drop e.at log))) (takeOut (take 132 (drop e.at log)))
+change_at log e = cond (eqb e.letter 65) (puts_in (take 132 (drop e.at log))) (takes_out (take 132 (drop e.at log)))
 
 -- the lines of the correction of a number
 unfoldable pub of_correction : ℕ → List Entry → List Entry

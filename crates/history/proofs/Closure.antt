@@ -47,6 +47,7 @@ module _ (F : Format) where
 
   relied_has : (log : Log F) (n : ℕ) (c : Correction F) (T : Numbers) (ρ : Route) → Touches F c ρ → last_on F log ρ n ∈ add_relied F log n c T
   unfolding add_relied
+  relied_has log n [] T ρ m = elim m [ ]
   relied_has log n (o ∷ c) T ρ (inl e) = subst (λ σ. last_on F log σ n ∈ add_relied F log n (o ∷ c) T) e (relied_keeps log n c _ _ (add_at _ T))
   relied_has log n (o ∷ c) T ρ (inr t) = relied_has log n c _ ρ t
 

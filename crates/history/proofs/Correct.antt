@@ -77,6 +77,7 @@ module _ (F : Format) where
 
   touched_at : (c : Correction F) (f : File F) (ρ : Route) → touched_accepted F c f ≡ true → Touches F c ρ → accepts (own F ρ f) ≡ true
   unfolding touched_accepted
+  touched_at [] f ρ h m = elim m [ ]
   touched_at (o ∷ c) f ρ h (inl e) = subst (λ σ. accepts (own F σ f) ≡ true) e (and_left (accepts (own F (route_of_op F o) f)) (touched_accepted F c f) h)
   touched_at (o ∷ c) f ρ h (inr t) = touched_at c f ρ (and_right (accepts (own F (route_of_op F o) f)) (touched_accepted F c f) h) t
 

@@ -12,7 +12,7 @@ use Rattle.history.proofs.Cases.{ite_case, Every, every_some, every_map}
 use Rattle.history.proofs.Correct.{correct_inv}
 use Rattle.history.proofs.Listed.{bind_assoc}
 use Rattle.history.specs.Format.{Format, File}
-use Rattle.history.specs.Apply.{take_out, put_in, Correction, taken_out, put_in, apply, apply_all, correct, run}
+use Rattle.history.specs.Apply.{take_out, put_in, Correction, taken_out, put_into, apply, apply_all, correct, run}
 use Rattle.history.specs.Growing.{outs, ins, occurs, Counted}
 
 module _ (F : Format) where
@@ -61,13 +61,13 @@ module _ (F : Format) where
         (λ e. rw e (one_more x f))
         (λ _. every_map (λ g. OneMore r f g) (λ g. OneMore r (x ∷ f) g) (λ g. x ∷ g) (taken_out F r f) (behind x r f) (many_taken r f))
 
-    many_put : (r : Record) (f : File F) → Every (λ g. OneMore r g f) (put_in F r f)
-    unfolding put_in Every
+    many_put : (r : Record) (f : File F) → Every (λ g. OneMore r g f) (put_into F r f)
+    unfolding put_into Every
     many_put r [] = one_more r []
     many_put r (x ∷ f) = ite_case (Every (λ g. OneMore r g (x ∷ f))) (before? (place r) (place x))
         (λ _. one_more r (x ∷ f))
         (λ _. ite_case (Every (λ g. OneMore r g (x ∷ f))) (before? (place x) (place r))
-        (λ _. every_map (λ g. OneMore r g f) (λ g. OneMore r g (x ∷ f)) (λ g. x ∷ g) (put_in F r f) (λ g. behind x r g f) (many_put r f))
+        (λ _. every_map (λ g. OneMore r g f) (λ g. OneMore r g (x ∷ f)) (λ g. x ∷ g) (put_into F r f) (λ g. behind x r g f) (many_put r f))
         (λ _. tt))
 
     -- Of the records with the property, those of the file that lines leave, with those that they take out, are as many as those of the file before,
@@ -79,8 +79,8 @@ module _ (F : Format) where
         let (e, k, rest) = (bind-eq-some_iff (taken_out F r f) (apply_all F c)).0 h in
         omega (arith, every_some (λ i. OneMore r f i) (taken_out F r f) e (many_taken r f) k, one_more r (outs c), many_all c e g rest)
     many_all (put_in r ∷ c) f g h =
-        let (e, k, rest) = (bind-eq-some_iff (put_in F r f) (apply_all F c)).0 h in
-        omega (arith, every_some (λ i. OneMore r i f) (put_in F r f) e (many_put r f) k, one_more r (ins c), many_all c e g rest)
+        let (e, k, rest) = (bind-eq-some_iff (put_into F r f) (apply_all F c)).0 h in
+        omega (arith, every_some (λ i. OneMore r i f) (put_into F r f) e (many_put r f) k, one_more r (ins c), many_all c e g rest)
 
   -- ---- this very record, and all records
 

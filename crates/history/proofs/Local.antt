@@ -7,7 +7,7 @@ use mathlib.Core.Option.{Option, none, some, map}
 use mathlib.Core.Logic.{ite, if_pos, if_neg, by_cases}
 use Rattle.history.proofs.Cases.{ite_case, Every}
 use Rattle.history.specs.Format.{Format, File, own, Above, Rising}
-use Rattle.history.specs.Apply.{Op, take_out, put_in, route_of_op, taken_out, put_in, apply}
+use Rattle.history.specs.Apply.{Op, take_out, put_in, route_of_op, taken_out, put_into, apply}
 
 module _ (F : Format) where
   open F use {Record, Place, Route, place, route, same?, route?, Before, before?, irreflexive, transitive, connected, route_by_place}
@@ -36,18 +36,18 @@ module _ (F : Format) where
   unfolding taken_out
   taken_there r x f h = if_neg (same? r x) h (some f) (push x (taken_out F r f))
 
-  pub put_here : (r x : Record) (f : File F) → Before (place r) (place x) → put_in F r (x ∷ f) ≡ some (r ∷ x ∷ f)
-  unfolding put_in
+  pub put_here : (r x : Record) (f : File F) → Before (place r) (place x) → put_into F r (x ∷ f) ≡ some (r ∷ x ∷ f)
+  unfolding put_into
   put_here r x f h = if_pos (before? (place r) (place x)) h _ _
 
-  pub put_there : (r x : Record) (f : File F) → Before (place x) (place r) → put_in F r (x ∷ f) ≡ push x (put_in F r f)
-  unfolding put_in
+  pub put_there : (r x : Record) (f : File F) → Before (place x) (place r) → put_into F r (x ∷ f) ≡ push x (put_into F r f)
+  unfolding put_into
   put_there r x f h =
       if_neg (before? (place r) (place x)) (λ b. irreflexive _ (transitive _ _ _ h b)) _ _
       ∙ if_pos (before? (place x) (place r)) h _ _
 
-  pub put_full : (r x : Record) (f : File F) → ¬ Before (place r) (place x) → ¬ Before (place x) (place r) → put_in F r (x ∷ f) ≡ none
-  unfolding put_in
+  pub put_full : (r x : Record) (f : File F) → ¬ Before (place r) (place x) → ¬ Before (place x) (place r) → put_into F r (x ∷ f) ≡ none
+  unfolding put_into
   put_full r x f h k = if_neg (before? (place r) (place x)) h _ _ ∙ if_neg (before? (place x) (place r)) k _ _
 
   -- A record in front, and then the view.
@@ -69,8 +69,8 @@ module _ (F : Format) where
   above_trans p q [] b a = tt
   above_trans p q (x ∷ f) b a = (transitive _ _ _ b a.0, above_trans p q f b a.1)
 
-  put_first : (r : Record) (f : File F) → Above F (place r) f → put_in F r f ≡ some (r ∷ f)
-  unfolding put_in
+  put_first : (r : Record) (f : File F) → Above F (place r) f → put_into F r f ≡ some (r ∷ f)
+  unfolding put_into
   put_first r [] a = refl
   put_first r (x ∷ f) a = put_here r x f a.0
 
@@ -96,18 +96,18 @@ module _ (F : Format) where
   rising_taken r (x ∷ f) a =
       ite_case (Every (Rising F)) (same? r x) (λ _. a.1) (λ _. rising_push x (taken_out F r f) (above_taken _ r f a.0) (rising_taken r f a.1))
 
-  above_put : (p : Place) (r : Record) (f : File F) → Before p (place r) → Above F p f → Every (Above F p) (put_in F r f)
-  unfolding put_in Every
+  above_put : (p : Place) (r : Record) (f : File F) → Before p (place r) → Above F p f → Every (Above F p) (put_into F r f)
+  unfolding put_into Every
   above_put p r [] b a = (b, tt)
   above_put p r (x ∷ f) b a = ite_case (Every (Above F p)) (before? (place r) (place x)) (λ _. (b, a))
-      (λ _. ite_case (Every (Above F p)) (before? (place x) (place r)) (λ _. above_push p x (put_in F r f) a.0 (above_put p r f b a.1)) (λ _. tt))
+      (λ _. ite_case (Every (Above F p)) (before? (place x) (place r)) (λ _. above_push p x (put_into F r f) a.0 (above_put p r f b a.1)) (λ _. tt))
 
-  rising_put : (r : Record) (f : File F) → Rising F f → Every (Rising F) (put_in F r f)
-  unfolding put_in Every
+  rising_put : (r : Record) (f : File F) → Rising F f → Every (Rising F) (put_into F r f)
+  unfolding put_into Every
   rising_put r [] a = (tt, tt)
   rising_put r (x ∷ f) a = ite_case (Every (Rising F)) (before? (place r) (place x)) (λ b. ((b, above_trans _ _ f b a.0), a))
       (λ _. ite_case (Every (Rising F)) (before? (place x) (place r))
-      (λ b. rising_push x (put_in F r f) (above_put _ r f b a.0) (rising_put r f a.1))
+      (λ b. rising_push x (put_into F r f) (above_put _ r f b a.0) (rising_put r f a.1))
       (λ _. tt))
 
   -- The view of the route itself.
@@ -115,8 +115,8 @@ module _ (F : Format) where
   unfolding own taken_out
   own_taken_nil r = refl
 
-  own_put_nil : (r : Record) → map (own F (route r)) (put_in F r []) ≡ put_in F r (own F (route r) [])
-  unfolding own put_in
+  own_put_nil : (r : Record) → map (own F (route r)) (put_into F r []) ≡ put_into F r (own F (route r) [])
+  unfolding own put_into
   own_put_nil r = ap some (own_in (route r) r [] refl)
 
   own_taken : (r : Record) (f : File F) → map (own F (route r)) (taken_out F r f) ≡ taken_out F r (own F (route r) f)
@@ -127,7 +127,7 @@ module _ (F : Format) where
       (λ i. rw (taken_there r x f ne, own_in _ x f i, taken_there r x _ ne, push_in _ x _ i, own_taken r f))
       (λ o. rw (taken_there r x f ne, own_out _ x f o, push_out _ x _ o) (own_taken r f)))
 
-  own_put : (r : Record) (f : File F) → Rising F f → map (own F (route r)) (put_in F r f) ≡ put_in F r (own F (route r) f)
+  own_put : (r : Record) (f : File F) → Rising F f → map (own F (route r)) (put_into F r f) ≡ put_into F r (own F (route r) f)
   own_put r [] a = own_put_nil r
   own_put r (x ∷ f) a = by_cases (before? (place r) (place x))
       (λ b. rw (put_here r x f b, own_in _ r (x ∷ f) refl, put_first r _ (above_own _ _ (x ∷ f) (b, above_trans _ _ f b a.0))))
@@ -150,12 +150,12 @@ module _ (F : Format) where
       (λ e. sym (own_out ρ x f (λ h. d (ap route e ∙ h))))
       (λ _. other_push ρ x f (taken_out F r f) (other_taken ρ r f d))
 
-  other_put : (ρ : Route) (r : Record) (f : File F) → ¬ (route r ≡ ρ) → Every (λ g. own F ρ g ≡ own F ρ f) (put_in F r f)
-  unfolding put_in Every
+  other_put : (ρ : Route) (r : Record) (f : File F) → ¬ (route r ≡ ρ) → Every (λ g. own F ρ g ≡ own F ρ f) (put_into F r f)
+  unfolding put_into Every
   other_put ρ r [] d = own_out ρ r [] d
   other_put ρ r (x ∷ f) d = ite_case (Every (λ g. own F ρ g ≡ own F ρ (x ∷ f))) (before? (place r) (place x))
       (λ _. own_out ρ r (x ∷ f) d)
-      (λ _. ite_case (Every (λ g. own F ρ g ≡ own F ρ (x ∷ f))) (before? (place x) (place r)) (λ _. other_push ρ x f (put_in F r f) (other_put ρ r f d)) (λ _. tt))
+      (λ _. ite_case (Every (λ g. own F ρ g ≡ own F ρ (x ∷ f))) (before? (place x) (place r)) (λ _. other_push ρ x f (put_into F r f) (other_put ρ r f d)) (λ _. tt))
 
   -- whether a line applies, and what it makes of its own route, is seen from that route alone
   pub own_apply : (o : Op Record) (f : File F) → Rising F f → map (own F (route_of_op F o)) (apply F o f) ≡ apply F o (own F (route_of_op F o) f)

@@ -11,7 +11,7 @@ use lib.Dec.{leb}
 use lib.ListN.{length, take}
 use Rattle.slices.specs.Order.{order, equal}
 use Rattle.history.specs.Format.{Format, own}
-use Rattle.history.specs.Apply.{Op, take_out, put_in, route_of_op, taken_out, put_in, apply, apply_all, touches?, touched_accepted, correct, run}
+use Rattle.history.specs.Apply.{Op, take_out, put_in, route_of_op, taken_out, put_into, apply, apply_all, touches?, touched_accepted, correct, run}
 use Rattle.history.specs.Sets.{Numbers, add, union, numbered, last_on, add_relied, closure_to, closure, choose_from, choose}
 use Rattle.history.specs.Growing.{outs, ins, occurs}
 use Rattle.history.specs.Bytes.{of_bytes, same?, before?}
@@ -46,7 +46,7 @@ abbrev fives : List (Op (List ℕ))
 fives = flatten (choose one (closure one log (add 5 nothing)) log)
 
 whole : run one frozen log ≡ some ((80 ∷ 3 ∷ []) ∷ (81 ∷ 4 ∷ []) ∷ (82 ∷ 5 ∷ []) ∷ [])
-unfolding run correct apply_all apply taken_out put_in touched_accepted own route_of_op same? before? order equal bind
+unfolding run correct apply_all apply taken_out put_into touched_accepted own route_of_op same? before? order equal bind
 whole = refl
 
 -- wanted 5 takes 1, 3, 5
@@ -55,7 +55,7 @@ unfolding closure_to add_relied last_on touches? route_of_op add numbered same? 
 five = refl
 
 five_makes : run one frozen (choose one (closure one log (add 5 nothing)) log) ≡ some ((80 ∷ 3 ∷ []) ∷ (81 ∷ 0 ∷ []) ∷ (82 ∷ 5 ∷ []) ∷ [])
-unfolding choose_from closure_to add_relied last_on touches? route_of_op add numbered run correct apply_all apply taken_out put_in touched_accepted own same? before? order equal bind ℕ_discrete
+unfolding choose_from closure_to add_relied last_on touches? route_of_op add numbered run correct apply_all apply taken_out put_into touched_accepted own same? before? order equal bind ℕ_discrete
 five_makes = refl
 
 -- wanted 4, 4 takes 2, 4
@@ -86,7 +86,7 @@ five_counts = (refl, refl, refl)
 
 -- a place that is taken, a record that is not there, and a route that is refused
 taken_place : run one frozen ((put_in (80 ∷ 9 ∷ []) ∷ []) ∷ []) ≡ none
-unfolding run correct apply_all apply put_in before? order bind
+unfolding run correct apply_all apply put_into before? order bind
 taken_place = refl
 
 not_there : run one frozen ((take_out (80 ∷ 9 ∷ []) ∷ []) ∷ []) ≡ none

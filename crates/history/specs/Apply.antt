@@ -26,14 +26,14 @@ module _ (F : Format) where
   taken_out r (x ∷ f) = ite (same? r x) (some f) (map (λ g. x ∷ g) (taken_out r f))
 
   -- the file with the record in its place; none where the place is taken
-  unfoldable pub put_in : Record → File F → Option (File F)
-  put_in r [] = some (r ∷ [])
-  put_in r (x ∷ f) = ite (before? (place r) (place x)) (some (r ∷ x ∷ f))
-      (ite (before? (place x) (place r)) (map (λ g. x ∷ g) (put_in r f)) none)
+  unfoldable pub put_into : Record → File F → Option (File F)
+  put_into r [] = some (r ∷ [])
+  put_into r (x ∷ f) = ite (before? (place r) (place x)) (some (r ∷ x ∷ f))
+      (ite (before? (place x) (place r)) (map (λ g. x ∷ g) (put_into r f)) none)
 
   unfoldable pub apply : Op Record → File F → Option (File F)
   apply (take_out r) f = taken_out r f
-  apply (put_in r) f = put_in r f
+  apply (put_in r) f = put_into r f
 
   -- "Lines apply in order"
   unfoldable pub apply_all : Correction → File F → Option (File F)

@@ -8,7 +8,7 @@ use lib.ListN.{length, take, length-append}
 use lib.Seq.{take_at, drop-append-add}
 use borrow.Author.Tests.{le-leb}
 use Rattle.corrections.specs.Reading.{Entry, entry}
-use Rattle.corrections.specs.Text.{Change, takeOut, put_in, letter_of, change_text, Sound, EverySound, AllSound, puts, all_puts, LegalLog}
+use Rattle.corrections.specs.Text.{Change, takes_out, puts_in, letter_of, change_text, Sound, EverySound, AllSound, puts, all_puts, LegalLog}
 use Rattle.corrections.proofs.TextLaws.{entries_in}
 use Rattle.corrections.proofs.ReadBack.{corrections_made}
 use Rattle.routes.specs.Sources.{first_of_log, log_source, record_within}
@@ -48,8 +48,8 @@ module _ (frozen log : List ℕ) where
   change_there : (front rest : List ℕ) (x : Change) (n at : ℕ) → Sound x → at ≡ length front → log ≡ front ++ (change_text x ++ rest)
       → operation frozen log (entry (letter_of x) (at + 2) n) ≡ op_of x
   unfolding operation op_of
-  change_there front rest (takeOut r) n at s a e = ap take_out (bytes_there front rest r 68 at n s.0 a e)
-  change_there front rest (put_in r) n at s a e = ap put_in (bytes_there front rest r 65 at n s.0 a e)
+  change_there front rest (takes_out r) n at s a e = ap take_out (bytes_there front rest r 68 at n s.0 a e)
+  change_there front rest (puts_in r) n at s a e = ap put_in (bytes_there front rest r 65 at n s.0 a e)
 
   -- The corrections that are read of a legal log are those that its text says.
   pub log_operations : (m : ℕ) (l : LegalLog log m)
@@ -62,8 +62,8 @@ module _ (frozen log : List ℕ) where
 wide_lines : (c : List Change) → EverySound c → WideLines (map op_of c)
 unfolding op_of
 wide_lines [] s = tt
-wide_lines (takeOut r ∷ c) s = (s.0.0, wide_lines c s.1)
-wide_lines (put_in r ∷ c) s = (s.0.0, wide_lines c s.1)
+wide_lines (takes_out r ∷ c) s = (s.0.0, wide_lines c s.1)
+wide_lines (puts_in r ∷ c) s = (s.0.0, wide_lines c s.1)
 
 pub wide_log : (cs : List (List Change)) → AllSound cs → WideLog (map (map op_of) cs)
 wide_log [] s = tt
@@ -72,8 +72,8 @@ wide_log (c ∷ cs) s = (wide_lines c s.0, wide_log cs s.1)
 adds_lines : (c : List Change) → adds_all (map op_of c) ≡ puts c
 unfolding op_of adds_all puts
 adds_lines [] = refl
-adds_lines (takeOut r ∷ c) = ap (λ (n : ℕ). 0 + n) (adds_lines c)
-adds_lines (put_in r ∷ c) = ap (λ (n : ℕ). 1 + n) (adds_lines c)
+adds_lines (takes_out r ∷ c) = ap (λ (n : ℕ). 0 + n) (adds_lines c)
+adds_lines (puts_in r ∷ c) = ap (λ (n : ℕ). 1 + n) (adds_lines c)
 
 pub adds_log : (cs : List (List Change)) → adds_in (map (map op_of) cs) ≡ all_puts cs
 unfolding adds_in all_puts

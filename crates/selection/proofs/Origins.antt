@@ -16,7 +16,7 @@ use Rattle.slices.proofs.Cases.{split}
 use Rattle.slices.proofs.OrderLaws.{irreflexive}
 use Rattle.slices.proofs.PartLaws.{get_d_any}
 use Rattle.corrections.specs.Reading.{Entry, said, read_log}
-use Rattle.corrections.specs.Text.{Change, takeOut, put_in}
+use Rattle.corrections.specs.Text.{Change, takes_out, puts_in}
 use Rattle.corrections.proofs.TextLaws.{entries_from, groups}
 use Rattle.corrections.proofs.Within.{legal_read}
 use Rattle.routes.specs.Places.{place_of, Every}
@@ -67,8 +67,8 @@ frozen_traced f l a = record {
 letters_from : (n at : ℕ) (xs : List Change) → Every Lettered (entries_from n at xs)
 unfolding entries_from
 letters_from n at [] = tt
-letters_from n at (takeOut r ∷ xs) = (inl refl, letters_from n (at + 135) xs)
-letters_from n at (put_in r ∷ xs) = (inr refl, letters_from n (at + 135) xs)
+letters_from n at (takes_out r ∷ xs) = (inl refl, letters_from n (at + 135) xs)
+letters_from n at (puts_in r ∷ xs) = (inr refl, letters_from n (at + 135) xs)
 
 letters_in : (begun at : ℕ) (cs : List (List Change)) → Every (Every Lettered) (groups begun at cs)
 unfolding groups
