@@ -30,6 +30,7 @@ use Rattle.columns.proofs.CompletedRecord.{some_begins}
 -- ---- where a walk stops
 
 stops_behind : (rs : List Row) (from end : ℕ) → Tiles from rs end → (rec : List ℕ) (c : ℕ) → Stops rec c rs → from ≤ c
+stops_behind [] from end t rec c m = elim m [ ]
 stops_behind (r ∷ rs) from end t rec c (here lo hi begun ended) = omega (arith, lo, t.0)
 stops_behind (r ∷ rs) from end t rec c (there ok s) = let k = stops_behind rs (from + r.width) end t.3 rec c s in omega (arith, k)
 
@@ -42,6 +43,7 @@ stops_split (r ∷ xs) ys rec c (there ok s) = ⊎_elim (λ t. inl (there ok t))
 
 none_begins : (rs : List Row) → Counted rs → every looks_back rs ≡ true → (rec x : List ℕ) (c : ℕ) → Stops rec c rs → part c 0 x ≡ part c 0 rec → EveryRow rs x → ⊥
 unfolding every
+none_begins [] p b rec x c m same h = elim m [ ]
 none_begins (r ∷ rs) p b rec x c (there ok s) same h = none_begins rs p.1 (and_right (looks_back r) (every looks_back rs) b) rec x c s same h.1
 none_begins (r ∷ rs) p b rec x c (here lo hi begun ended) same h =
     let o = right_begins x r c lo hi h.0 in

@@ -43,11 +43,13 @@ TheRow rec c rs r =
 
 the_row : (rs : List Row) (rec : List ℕ) (c : ℕ) → Stops rec c rs → (r : Row) × TheRow rec c rs r
 unfolding TheRow
+the_row [] rec c m = elim m [ ]
 the_row (r ∷ rs) rec c (here lo hi begun ended) = (r, (Memᴰ.head refl, lo, hi, begun))
 the_row (q ∷ rs) rec c (there ok s) = let t = the_row rs rec c s in (t.0, (Memᴰ.tail t.1.0, t.1.1, t.1.2, t.1.3))
 
 -- a row that ends before it is right
 passed : (rs : List Row) (from end : ℕ) → Tiles from rs end → (rec : List ℕ) (c : ℕ) → Stops rec c rs → (q : Row) → Memᴰ q rs → q.column + q.width ≤ c → row_ok q rec ≡ true
+passed [] from end t rec c m q _ h = elim m [ ]
 passed (r ∷ rs) from end t rec c (here lo hi begun ended) q (Memᴰ.head e) h = absurd (let k = subst (λ (y : Row). y.column + y.width ≤ c) e h in omega (arith, k, hi))
 passed (r ∷ rs) from end t rec c (here lo hi begun ended) q (Memᴰ.tail m) h =
     let k : from + r.width ≤ q.column = after rs (from + r.width) end t.3 q m in absurd (omega (arith, k, hi, h, t.0))

@@ -90,6 +90,7 @@ letters_shown (c ∷ cs) (b ∷ f) t e = (
 )
 
 of_alternative : (alts : List Alternative) (a : Alternative) → Memᴰ a alts → shown_alternatives alts ≡ true → shown_letters a.letters ≡ true
+of_alternative [] a m t = elim m [ ]
 of_alternative (x ∷ alts) a (Memᴰ.head e) t = ap (λ (y : Alternative). shown_letters y.letters) e ∙ and_left (shown_letters x.letters) _ t
 of_alternative (x ∷ alts) a (Memᴰ.tail m) t = of_alternative alts a m (and_right (shown_letters x.letters) _ t)
 
@@ -100,6 +101,7 @@ row_shown rec r t e =
     (and_right (stands m.0.guard m.0.holds rec) _ m.2)
 
 rows_shown : (rec : List ℕ) (rs : List Row) → shown_rows rs ≡ true → EveryRow rs rec → (r : Row) → Memᴰ r rs → Each Printable (field_at r.column r.width rec)
+rows_shown rec [] t h r m = elim m [ ]
 rows_shown rec (x ∷ rs) t h r (Memᴰ.head e) =
     row_shown rec r (ap (λ (y : Row). shown_alternatives y.alternatives) e ∙ and_left (shown_alternatives x.alternatives) _ t)
     (ap (λ (y : Row). row_ok y rec) e ∙ h.0)

@@ -76,6 +76,7 @@ module _ (rec f : List ℕ) where
 
   matched_from : (alts : List Alternative) (a : Alternative) → Memᴰ a alts → alternative_ok a rec f ≡ true → matches alts rec f ≡ true
   unfolding matches
+  matched_from [] a m x = elim m [ ]
   matched_from (b ∷ alts) a (Memᴰ.head e) x = or_left (alternative_ok b rec f) (matches alts rec f) (ap (λ (c : Alternative). alternative_ok c rec f) (sym e) ∙ x)
   matched_from (b ∷ alts) a (Memᴰ.tail m) x = or_right (alternative_ok b rec f) (matches alts rec f) (matched_from alts a m x)
 
@@ -118,6 +119,7 @@ first_leftmost (r ∷ rs) rec c h e =
 
 leftmost_first : (rs : List Row) (rec : List ℕ) (c : ℕ) → Leftmost rec c rs → first_bad rs rec ≡ c
 unfolding first_of
+leftmost_first [] rec c m = elim m [ ]
 leftmost_first (r ∷ rs) rec c (here t e) = rw t e
 leftmost_first (r ∷ rs) rec c (there t l) = rw t (leftmost_first rs rec c l)
 
@@ -160,11 +162,13 @@ reaches (r ∷ rs) from end t = let l : from + r.width ≤ end + 1 = reaches rs 
 
 -- no row begins before the first column
 pub after : (rs : List Row) (from end : ℕ) → Tiles from rs end → (r : Row) → Memᴰ r rs → from ≤ r.column
+after [] from end t r m = elim m [ ]
 after (q ∷ rs) from end t r (Memᴰ.head e) = let c : r.column ≡ q.column = ap (λ (x : Row). x.column) e in omega (arith, t.0)
 after (q ∷ rs) from end t r (Memᴰ.tail m) = let l : from + q.width ≤ r.column = after rs (from + q.width) end t.3 r m in omega arith
 
 -- none goes past the last column
 pub within : (rs : List Row) (from end : ℕ) → Tiles from rs end → (r : Row) → Memᴰ r rs → r.column + r.width ≤ end + 1
+within [] from end t r m = elim m [ ]
 within (q ∷ rs) from end t r (Memᴰ.head e) =
     let l : from + q.width ≤ end + 1 = reaches rs (from + q.width) end t.3 in
     subst (λ (x : Row). x.column + x.width ≤ end + 1) (sym e) (omega (arith, t.0, l))
@@ -172,12 +176,14 @@ within (q ∷ rs) from end t r (Memᴰ.tail m) = within rs (from + q.width) end 
 
 -- every pattern is as wide as its row
 pub as_wide : (rs : List Row) (from end : ℕ) → Tiles from rs end → (r : Row) → Memᴰ r rs → Wide r.width r.alternatives
+as_wide [] from end t r m = elim m [ ]
 as_wide (q ∷ rs) from end t r (Memᴰ.head e) = subst (λ (x : Row). Wide x.width x.alternatives) (sym e) t.2
 as_wide (q ∷ rs) from end t r (Memᴰ.tail m) = as_wide rs (from + q.width) end t.3 r m
 
 -- of two rows one is the other, or stands before it, or behind it
 pub apart : (rs : List Row) (from end : ℕ) → Tiles from rs end → (q r : Row) → Memᴰ q rs → Memᴰ r rs
     → (q ≡ r) ⊎ (q.column + q.width ≤ r.column) ⊎ (r.column + r.width ≤ q.column)
+apart [] from end t q r m _ = elim m [ ]
 apart (x ∷ rs) from end t q r (Memᴰ.head e) (Memᴰ.head f) = inl (e ∙ sym f)
 apart (x ∷ rs) from end t q r (Memᴰ.head e) (Memᴰ.tail n) =
     let l : from + x.width ≤ r.column = after rs (from + x.width) end t.3 r n in

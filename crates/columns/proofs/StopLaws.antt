@@ -214,6 +214,7 @@ stop_to (r ∷ rs) from end t rec c h e =
 
 stop_from : (rs : List Row) (rec : List ℕ) (c : ℕ) → Stops rec c rs → first_stop rs rec ≡ c
 unfolding first_of
+stop_from [] rec c m = elim m [ ]
 stop_from (r ∷ rs) rec c (there ok s) = rw ok (stop_from rs rec c s)
 stop_from (r ∷ rs) rec c (here lo hi begun ended) =
     split (row_ok r rec) (λ ok. absurd (ended (right_begins rec r c lo hi ok))) (λ ok. rw ok (by (dec_lt c (stop_of r rec)) (dec_lt r.column c)))
@@ -231,6 +232,7 @@ stop_iff rs from end t rec c h = (stop_to rs from end t rec c h, stop_from rs re
 -- ---- the row of the leftmost field that is bad
 
 leftmost_behind : (rs : List Row) (from end : ℕ) → Tiles from rs end → (rec : List ℕ) (c : ℕ) → Leftmost rec c rs → from ≤ c
+leftmost_behind [] from end t rec c m = elim m [ ]
 leftmost_behind (r ∷ rs) from end t rec c (leftmost.here n e) = omega (arith, e, t.0)
 leftmost_behind (r ∷ rs) from end t rec c (leftmost.there ok l) = let k = leftmost_behind rs (from + r.width) end t.3 rec c l in omega (arith, k)
 
@@ -238,6 +240,7 @@ leftmost_behind (r ∷ rs) from end t rec c (leftmost.there ok l) = let k = left
 pub leftmost_row : (rs : List Row) (from end : ℕ) → Tiles from rs end → (rec : List ℕ) (r : Row) → Memᴰ r rs → Leftmost rec r.column rs
     → (1 ≤ r.width) × (row_ok r rec ≡ false) × ((f : Row → List ℕ → ℕ) → first_of f rs rec ≡ f r rec)
 unfolding first_of
+leftmost_row [] from end t rec r m _ = elim m [ ]
 leftmost_row (q ∷ rs) from end t rec r (Memᴰ.head e) (leftmost.here n i) =
     (subst (λ (y : Row). 1 ≤ y.width) (sym e) t.1, ap (λ (y : Row). row_ok y rec) e ∙ n, λ f. rw n (ap (λ (y : Row). f y rec) (sym e)))
 leftmost_row (q ∷ rs) from end t rec r (Memᴰ.tail m) (leftmost.here n i) =

@@ -56,11 +56,11 @@ loop-at-preserved c =    let inv = c.loop-at.invariant in
     let line = advances _ _ _ _ _ c.line_at-line.ensures c.judge_line-verdict.ensures c.in-Accepted.is in
     let more =
     grown_by _ _ c.loop-at.at _ _ _ c.line_at-line.result c.begun_after-begun.ensures
-    c.count_after-count.ensures c.Store-Line.ensures in (
+    c.count_after-count.ensures c.store_line.ensures in (
       kept_next inv.0 line more c.width-at.ensures,
       inv.1
           ∙ reading_next _ _ _ _ _ c.loop-at-test.true inv.0.counted c.line_at-line.ensures
-          c.judge_line-verdict.ensures c.in-Accepted.is more c.Room-after.ensures c.width-at.ensures,
+          c.judge_line-verdict.ensures c.in-Accepted.is more c.room_after-room.ensures c.width-at.ensures,
     )
 
 pub returns : goal.returns

@@ -4,4 +4,4 @@ use Rattle.leg.proofs.terminator.Terminator.ends_at_fix.Goals as goal
 
 pub returns : goal.returns
 unfolding ends_table
-returns c = rw c.number-n.ensures.0 (row_of c.args.self).its-end
+returns c = rw c.number-n.ensures.0 (row_of c.args.self).its_end

@@ -4,4 +4,4 @@ use Rattle.leg.proofs.terminator.Terminator.is_holding.Goals as goal
 
 pub returns : goal.returns
 unfolding holdings_table
-returns c = rw c.number-n.ensures.0 (row_of c.args.self).its-holding
+returns c = rw c.number-n.ensures.0 (row_of c.args.self).its_holding

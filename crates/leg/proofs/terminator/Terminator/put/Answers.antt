@@ -10,4 +10,4 @@ use Rattle.leg.proofs.terminator.Terminator.put.Goals as goal
 pub returns : goal.returns
 unfolding name_of terminators texts codes
 returns c =    rw (c.copy.ensures, c.column.ensures, c.number-n.ensures.0)
-    (ap (sets _ 47) (whole 2 (name_of _) (row_of _).its-width))
+    (ap (sets _ 47) (whole 2 (name_of _) (row_of _).its_width))
