@@ -126,6 +126,7 @@ module _ (place : ℕ) (rec : List ℕ) where
 
 -- whichever stage it is, the place is the record's
 stages_place : (s : Seen) (place : ℕ) (last : Bool) (rec : List ℕ) (r : Refusal) → First r (stages_after s place last rec) → r.place ≡ place
+stages_place s place last rec r (there _ (there _ (there _ (there _ (there _ m))))) = elim m [ ]
 stages_place s place last rec r (here e) = (judged_names place rec r e).spot
 stages_place s place last rec r (there _ (here e)) = (continuation_names place rec 38 39 (kind_of rec) s r e).spot
 stages_place s place last rec r (there _ (there _ (here e))) = (order_names place rec 25 (kind_of rec) s.primary r e).spot
@@ -146,6 +147,7 @@ module _ (ahead : List (List ℕ)) (r : Refusal) where
           → (walk_from ahead (seen_with s rec) (place + 1) recs ≡ Refused r → FirstRecord ahead r (seen_with s rec) (place + 1) recs) → FirstRecord ahead r s place (rec ∷ recs)
       by (here q) ih =
           let f = first_to r (stages_after s place (ends_route rec (recs ++ ahead)) rec) q in at (stages_place s place (ends_route rec (recs ++ ahead)) rec r f) f
+      by (there a (there _ m)) ih = elim m [ ]
       by (there a (here q)) ih = behind (all_to (stages_after s place (ends_route rec (recs ++ ahead)) rec) a) (ih q)
 
   walk_from_lem : {s : Seen} {place : ℕ} {recs : List (List ℕ)} → FirstRecord ahead r s place recs → walk_from ahead s place recs ≡ Refused r

@@ -132,6 +132,7 @@ mem_at (x ∷ xs) d zero h = Memᴰ.head refl
 mem_at (x ∷ xs) d (suc n) h = Memᴰ.tail (mem_at xs d n (omega arith))
 
 place_of : (xs : List RouteKind) (d k : RouteKind) → Memᴰ k xs → (n : ℕ) × (n < length xs) × (get_or xs n d ≡ k)
+place_of [] d k m = elim m [ ]
 place_of (x ∷ xs) d k (Memᴰ.head e) = (zero, omega arith, sym e)
 place_of (x ∷ xs) d k (Memᴰ.tail m) = let i = place_of xs d k m in (suc i.0, omega (arith, i.1), i.2)
 

@@ -12,7 +12,7 @@ returns-then-out-lt133 c =    let r = c.refuse.ensures in
 pub returns-in-Accepted : goal.returns-in-Accepted
 returns-in-Accepted c =    let room = c.if-out-lt133.false in
     finish_accepted _ _ room c.judge_parts-verdict.ensures c.in-Accepted.is
-    (with_feed c.args.t1 _ (search rules) room _ _ c.copy.ensures c.put_after.ensures c.clear_from.ensures)
+    (with_feed c.args.rec _ (search rules) room _ _ c.copy.ensures c.put_after.ensures c.clear_from.ensures)
 
 pub returns-in-Refused : goal.returns-in-Refused
 returns-in-Refused c =    let r = c.refuse-in-Refused.ensures in

@@ -1,7 +1,6 @@
 -- The invariant: what is left to compare decides the answer. Assumes nothing.
 use borrow.Author.Rules.{rules}
 use mathlib.Core.Path.{sym, ◌∙◌}
-use Prim.Native.Nat.{◌-◌}
 use Rattle.slices.proofs.Turns.{comparing_start, comparing_stop, comparing_next, comparing_end}
 use Rattle.slices.proofs.compare_past.Goals as goal
 
@@ -9,17 +8,17 @@ pub loop-k-init : goal.loop-k-init
 loop-k-init c = (search rules, comparing_start _ _ _ _ _)
 
 pub returns-then-x-y : goal.returns-then-x-y
-returns-then-x-y c =    c.way.ensures
+returns-then-x-y c = c.way.ensures
     ∙ sym
     (c.loop-k.invariant.1
     ∙ comparing_stop _ _ _ _ _ _ c.loop-k-test.true c.byte_after-x.ensures c.byte_after-y.ensures c.if-x-y.true)
 
 pub loop-k-preserved : goal.loop-k-preserved
-loop-k-preserved c =    (
-      search rules,
-      c.loop-k.invariant.1
-          ∙ comparing_next _ _ _ _ _ _ c.loop-k-test.true c.byte_after-x.ensures c.byte_after-y.ensures c.if-x-y.false,
-    )
+loop-k-preserved c = (
+  search rules,
+  c.loop-k.invariant.1
+      ∙ comparing_next _ _ _ _ _ _ c.loop-k-test.true c.byte_after-x.ensures c.byte_after-y.ensures c.if-x-y.false,
+)
 
 pub returns : goal.returns
 returns c = sym (c.loop-k.invariant.1 ∙ comparing_end _ _ _ _ _ _ c.loop-k-test.false)

@@ -17,5 +17,5 @@ loop-i-preserved c =    let inv = c.loop-i.invariant in
 
 pub returns : goal.returns
 returns c =    let inv = c.loop-i.invariant in
-    let e : c.loop-i.i ≡ c.args.t3.count = omega (arith, inv.0, inv.1, c.loop-i-test.false) in
+    let e : c.loop-i.i ≡ c.args.explained.count = omega (arith, inv.0, inv.1, c.loop-i-test.false) in
     rw e at inv.4

@@ -22,13 +22,13 @@ apply_line-change-requires c = (c.loop-k.invariant.1, c.requires.2.1 _, c.loop-k
 
 pub returns-then-not-change : goal.returns-then-not-change
 returns-then-not-change c = λ owners.
-    let d = c.if-not-change.true in
+    let d = is_false _ c.if-not-change.true in
     let inv = c.loop-k.invariant.3 owners in
     let g = c.apply_line-change.ensures _ in
     (lines_failed _ _ _ _ _ _ _ inv.0 c.loop-k-test.true _ _ g d, sym (inv.1 ∙ fails_here _ _ _ _ _ c.loop-k-test.true _ _ _ g d))
 
 pub loop-k-preserved : goal.loop-k-preserved
-loop-k-preserved c = let d = c.if-not-change.false in
+loop-k-preserved c = let d = is_true _ c.if-not-change.false in
     let inv = c.loop-k.invariant in
     let s = gave_some _ _ _ (c.apply_line-change.ensures 0) d in (
       search rules,

@@ -8,10 +8,6 @@ use Rattle.applying.proofs.series.lines_end.Goals as goal
 pub loop-k-init : goal.loop-k-init
 loop-k-init c = (c.requires.1, λ letters offsets. refl)
 
--- LOST cast-owner was overflow-cast-owner
--- cast-owner : tie.Need-overflow-cast-owner invariant-loop decreases-loop
--- cast-owner c = omega (arith, c.shared-slice-known.given c.before.before.loop.k)
-
 pub returns-then-owner-n : goal.returns-then-owner-n
 returns-then-owner-n c = let inv = c.loop-k.invariant in (λ letters offsets. leading_stop _ _ _ _ (inv.1 letters offsets) c.loop-k-test.true c.if-owner-n.true, inv.0)
 

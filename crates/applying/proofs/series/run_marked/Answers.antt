@@ -16,7 +16,7 @@ lines_end-to-requires c = (c.requires.1, c.loop-n.invariant.3, search rules)
 pub correct_if-next-requires : goal.correct_if-next-requires
 correct_if-next-requires c = let pre = c.requires in
     let inv = c.loop-n.invariant in
-    let good = c.well-formed.1.1.1.1.0 in
+    let good = c.well_formed.1.1.1.1.0 in
     (inv.1, omega (arith, pre.1, c.lines_end-to.ensures.1), (search rules, pre.2), search rules, inv.2, pre.4)
 
 pub returns-in-Refused : goal.returns-in-Refused

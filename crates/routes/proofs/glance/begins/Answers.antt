@@ -13,7 +13,7 @@ returns-then-byte_at-eq0 c e = absurd (false≢true e)
 
 pub returns : goal.returns
 returns c e =    let pre = c.requires in record {
-      c = sym c.lone.ensures ∙ c.if-not-lone.false;
+      single = sym c.lone.ensures ∙ c.if-not-lone.false;
       later = later_than_none _ c.byte_at.ensures c.if-byte_at-eq0.false;
       first = may_be_first _ pre.0 pre.2 (sym c.may_begin.ensures ∙ e);
     }

@@ -13,8 +13,8 @@ returns-then-not-same c e = absurd (false≢true e)
 
 pub returns-in-Less : goal.returns-in-Less
 returns-in-Less c e =    let pre = c.requires in record {
-      c = sym c.lone.ensures ∙ c.if-not-lone.false;
-      c = (equal_iff _ _).0 (sym c.same.ensures ∙ c.if-not-same.false);
+      single = sym c.lone.ensures ∙ c.if-not-lone.false;
+      route = (equal_iff _ _).0 (sym c.same.ensures ∙ c.if-not-same.false);
       rises = sym c.compare-way.ensures ∙ c.in-Less.is;
       fits = rw (← pre.1, ← pre.2) (sym c.pair_in.ensures ∙ e);
     }

@@ -6,9 +6,5 @@ use Rattle.routes.proofs.known.knows.Goals as goal
 pub returns-then-known-i : goal.returns-then-known-i
 returns-then-known-i c = knows_none _ _ c.slot-i.ensures c.if-known-i.true
 
--- LOST cast-held was overflow-cast-held
--- cast-held : tie.Need-overflow-cast-held
--- cast-held c = omega (arith, c.shared-slice-known2.given c.before.before.slot.result)
-
 pub returns : goal.returns
 returns c = knows_held _ _ c.slot-i.ensures

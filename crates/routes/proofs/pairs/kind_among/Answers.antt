@@ -1,12 +1,12 @@
 -- The invariant: the lines that are left give the answer. Assumes nothing.
 use mathlib.Core.Path.{◌∙◌}
-use mathlib.Core.Logic.{⊎_elim}
 use Prim.Native.Nat.{◌-◌}
 use native.Mathlib.Nat.{zero-add}
 use Rattle.slices.proofs.SearchLaws.{starts, finds, goes_on, ends}
 use Rattle.routes.proofs.TableLaws.{by_type, other_subsection, nine_lines}
 use borrow.Author.Rules.{rules}
 use Rattle.routes.proofs.pairs.kind_among.Goals as goal
+use Rattle.routes.proofs.pairs.kind_among.Goals.{then-byte_at-subsection+else-route_type-has, else-byte_at-subsection}
 
 pub loop-i-init : goal.loop-i-init
 loop-i-init c = (c.byte_at-subsection.ensures, c.byte_at-route_type.ensures, search rules, starts _ 0 _ 0)
@@ -23,10 +23,9 @@ loop-i-preserved c =    let inv = c.loop-i.invariant in (
       inv.1,
       search rules,
       goes_on _ 0 _ 0 _ inv.3 (rw nine_lines c.loop-i-test.true)
-          (⊎_elim
-          (λ w. by_type _ _ _ _ c.loop-i-test.true inv.0 inv.1 c.byte_at.ensures w.0.taken w.1.ensures w.2.left)
-          (λ w. other_subsection _ _ _ _ c.loop-i-test.true inv.0 inv.1 c.byte_at.ensures w.left)
-          c.if-byte_at-subsection.branch),
+          (elim c.if-byte_at-subsection.branch [
+            then-byte_at-subsection+else-route_type-has w ↦ by_type _ _ _ _ c.loop-i-test.true inv.0 inv.1 c.byte_at.ensures w.if-byte_at-subsection.true w.has.ensures w.if-route_type-has.false
+          | else-byte_at-subsection w ↦ other_subsection _ _ _ _ c.loop-i-test.true inv.0 inv.1 c.byte_at.ensures w.if-byte_at-subsection.false ]),
     )
 
 pub returns : goal.returns

@@ -27,7 +27,7 @@ reliances-relied-requires c =    let r = c.requires in
     (index_few _ _ r, index_within _ _ r)
 
 pub slice_bounds-taken-end : goal.slice_bounds-taken-end
-slice_bounds-taken-end c = let good = c.well-formed.1.1.0 in search rules
+slice_bounds-taken-end c = let good = c.well_formed.1.1.0 in search rules
 
 pub returns : goal.returns
 returns c =    let r = c.requires in

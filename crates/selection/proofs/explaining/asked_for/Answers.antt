@@ -7,10 +7,6 @@ use Rattle.selection.proofs.explaining.asked_for.Goals as goal
 pub loop-i-init : goal.loop-i-init
 loop-i-init c = asked_start _
 
--- LOST cast-n was overflow-cast-n
--- cast-n : tie.Need-overflow-cast-n invariant-loop decreases-loop
--- cast-n c = omega (arith, c.shared-slice-known2.given c.before.before.loop.i)
-
 pub loop-i-preserved : goal.loop-i-preserved
 loop-i-preserved c =    asked_next _ _ _ c.loop-i.invariant c.loop-i-test.true _ c.put_after.ensures
 

@@ -7,7 +7,7 @@ use borrow.Author.Rules.{rules}
 use Rattle.selection.proofs.explaining.explain.Goals as goal
 
 pub loop-i-init : goal.loop-i-init
-loop-i-init c =    let long : length c.args.t6.at ≡ 200 = (let good = c.well-formed.1.1.1.1.1.0 in search rules) in
+loop-i-init c =    let long : length c.args.members.at ≡ 200 = (let good = c.well_formed.1.1.1.1.1.0 in search rules) in
     (c.requires.0, long, refl, refl, filled_start _ _ _ _ _ c.requires.0 long)
 
 pub reason_of-named-requires : goal.reason_of-named-requires

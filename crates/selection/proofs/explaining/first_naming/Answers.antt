@@ -7,10 +7,6 @@ use Rattle.selection.proofs.explaining.first_naming.Goals as goal
 pub loop-k-init : goal.loop-k-init
 loop-k-init c = named_start _ _ _ _
 
--- LOST cast-named was overflow-cast-named
--- cast-named : tie.Need-overflow-cast-named invariant-loop decreases-loop
--- cast-named c = omega (arith, c.shared-slice-known3.given c.before.before.before.before.loop.k)
-
 pub overflow_cast-at : goal.overflow_cast-at
 overflow_cast-at c = omega (arith, c.requires.1 c.loop-k.k)
 

@@ -9,10 +9,6 @@ use Rattle.selection.proofs.opening.within.Goals as goal
 pub loop-i-init : goal.loop-i-init
 loop-i-init c = (search rules, refl)
 
--- LOST cast-n was overflow-cast-n
--- cast-n : tie.Need-overflow-cast-n invariant-loop decreases-loop
--- cast-n c = omega (arith, c.shared-slice-known2.given c.before.before.loop.i)
-
 pub returns-then-n-eq0 : goal.returns-then-n-eq0
 returns-then-n-eq0 c =    wanted_zero _ _ _ c.loop-i.invariant.1 c.loop-i-test.true c.if-n-eq0.true c.not_in_log.ensures
 

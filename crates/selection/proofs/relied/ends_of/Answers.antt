@@ -8,10 +8,6 @@ use Rattle.selection.proofs.relied.ends_of.Goals as goal
 pub loop-k-init : goal.loop-k-init
 loop-k-init c = (omega arith, ends_start _)
 
--- LOST cast-c was overflow-cast-c
--- cast-c : tie.Need-overflow-cast-c invariant-loop decreases-loop
--- cast-c c = omega (arith, c.shared-slice-known.given c.before.before.loop.k)
-
 pub loop-k-preserved-then-c-lt-MARKS : goal.loop-k-preserved-then-c-lt-MARKS
 loop-k-preserved-then-c-lt-MARKS c =    (search rules, ends_next _ _ _ c.loop-k.invariant.1 c.if-c-lt-MARKS.true)
 

@@ -8,10 +8,6 @@ use Rattle.selection.proofs.relied.firsts_of.Goals as goal
 pub loop-k-init : goal.loop-k-init
 loop-k-init c = (omega arith, firsts_start _)
 
--- LOST cast-c was overflow-cast-c
--- cast-c : tie.Need-overflow-cast-c invariant-loop decreases-loop
--- cast-c c = omega (arith, c.shared-slice-known.given (c.before.before.loop.k - 1))
-
 pub loop-k-preserved-then-c-lt-MARKS : goal.loop-k-preserved-then-c-lt-MARKS
 loop-k-preserved-then-c-lt-MARKS c =    (search rules, firsts_next _ _ _ c.loop-k.invariant.1 c.loop-k-test.true c.if-c-lt-MARKS.true)
 

@@ -10,14 +10,6 @@ returns-then-of-k c = names_none _ _ _ _ c.if-of-k.true
 pub returns-then-relied-k : goal.returns-then-relied-k
 returns-then-relied-k c = names_nothing _ _ _ _ c.if-relied-k.true
 
--- LOST cast-owner was overflow-cast-owner
--- cast-owner : tie.Need-overflow-cast-owner
--- cast-owner c = omega (arith, c.shared-slice-known.given c.before.before.before.args.k)
-
--- LOST cast-p was overflow-cast-p
--- cast-p : tie.Need-overflow-cast-p
--- cast-p c = omega (arith, c.shared-slice-known2.given c.before.before.before.before.args.k)
-
 pub returns-then-owner-c : goal.returns-then-owner-c
 returns-then-owner-c c = names _ _ _ _ refl c.if-owner-c.true
 

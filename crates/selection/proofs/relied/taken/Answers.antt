@@ -9,10 +9,6 @@ use Rattle.selection.proofs.relied.taken.Goals as goal
 pub loop-i-init : goal.loop-i-init
 loop-i-init c = (omega arith, c.firsts_of-firsts.ensures, c.ends_of-ends.ensures, taken_start _ _ _)
 
--- LOST cast-c was overflow-cast-c
--- cast-c : tie.Need-overflow-cast-c invariant-loop decreases-loop
--- cast-c c = omega (arith, c.shared-slice-known4.given c.before.before.loop.i)
-
 pub mark-requires : goal.mark-requires
 mark-requires c =    let inv = c.loop-i.invariant in
     (omega (arith, inv.3.long), inv.1, inv.2)
