@@ -75,19 +75,19 @@ module _ (frozen : List ℕ) (r : Refusal) where
   abbrev about : Bool
   about = ltb r.number 9 && (leb 1 r.place && leb r.place 480)
 
-  pub about_none : not about ≡ true → [] ≡ frozen_record frozen r
+  pub about_none : about ≡ false → [] ≡ frozen_record frozen r
   unfolding frozen_record
-  about_none t = rw (is_false about t)
+  about_none t = rw t
 
-  module _ (t : not about ≡ false) where
+  module _ (t : about ≡ true) where
     pub about_place : (1 ≤ r.place) × (r.place ≤ 480)
     about_place =
-        let w = and_right (ltb r.number 9) (leb 1 r.place && leb r.place 480) (is_true about t) in
+        let w = and_right (ltb r.number 9) (leb 1 r.place && leb r.place 480) t in
         (leb-true 1 r.place (and_left (leb 1 r.place) (leb r.place 480) w), leb-true r.place 480 (and_right (leb 1 r.place) (leb r.place 480) w))
 
     its_bytes : frozen_record frozen r ≡ take 132 (drop ((r.place - 1) * 133) frozen)
     unfolding frozen_record
-    its_bytes = rw (is_true about t)
+    its_bytes = rw t
 
     pub past_end : length frozen ≤ (r.place - 1) * 133 → [] ≡ frozen_record frozen r
     past_end h = sym (its_bytes ∙ ap (take 132) (drop_of_length-le frozen h))

@@ -8,7 +8,7 @@ use native.Mathlib.Omega.{arith}
 use Rattle.slices.specs.Part.{blank}
 use Rattle.slices.proofs.PartLaws.{blank_replicate}
 use Rattle.columns.specs.Patterns.{codes}
-use Rattle.columns.specs.Words.{columns, Blank, Digits, Distance, PrimaryContent}
+use Rattle.columns.specs.Words.{columns, Blank, Digits, PrimaryContent}
 use Rattle.leg.specs.Terminator.{terminator_of, is_holding}
 use Rattle.fields.specs.Quantities.{
   rnp_of,
@@ -25,7 +25,6 @@ use Rattle.fields.specs.Quantities.{
 use Rattle.fields.specs.Head.{head_of, tail_of, cycle_of}
 use Rattle.fields.specs.Leg.{leg_of}
 use Rattle.fields.specs.Values.{AltitudeValue, Values}
-use Rattle.fields.specs.declared.quantities.Distance.TheVariants as distance
 use Rattle.fields.proofs.QuantityLaws.{digits_filled, vertical_of, vertical_blank, course_blank, course_magnetic, course_true, altitude_blank, altitude_feet, altitude_level, altitude_below, distance_blank, distance_miles, distance_minutes, minutes_on}
 use Rattle.fields.proofs.RoundTrip.{distance_on}
 

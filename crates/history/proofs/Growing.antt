@@ -2,7 +2,7 @@
 -- Each says besides that what it speaks of stands.
 -- Assumes of a format what `Format` says, and nothing else.
 use mathlib.Core.Path.{◌≡◌, sym, ◌∙◌, ap}
-use mathlib.Core.Bool.{true, false, false≢true}
+use mathlib.Core.Bool.{false≢true}
 use mathlib.Core.List.{List, flatten}
 use mathlib.Core.Option.{some}
 use mathlib.Core.Logic.{◌↔◌, ◌⊎◌, inl, inr, ⊎_elim, by_cases}

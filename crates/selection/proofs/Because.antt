@@ -214,6 +214,7 @@ module _ (f l : List ℕ) (n : ℕ) (es : List Entry) (b : ByCorrection n es) (w
   -- ---- where they lead
 
   given : (ps : List ℕ) (p : ℕ) → Memᴰ p ps → Memᴰ (reason_of f l n es ws p) (map (reason_of f l n es ws) ps)
+  given [] p m = elim m [ ]
   given (x ∷ ps) p (Memᴰ.head q) = Memᴰ.head (ap (reason_of f l n es ws) q)
   given (x ∷ ps) p (Memᴰ.tail m) = Memᴰ.tail (given ps p m)
 

@@ -31,6 +31,7 @@ use Rattle.selection.proofs.OpeningLaws.{wanted_iff}
 -- ---- lists and sets
 
 every_in : {A : Type 0} (P : A → Type 0) (xs : List A) → Every P xs → (x : A) → Memᴰ x xs → P x
+every_in P [] e x m = elim m [ ]
 every_in P (y ∷ xs) e x (Memᴰ.head q) = subst P (sym q) e.0
 every_in P (y ∷ xs) e x (Memᴰ.tail m) = every_in P xs e.1 x m
 

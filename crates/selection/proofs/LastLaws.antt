@@ -58,7 +58,7 @@ module _ (f l : List ℕ) where
     last_append : (found : ℕ) (xs ys : List Entry) → last_before f l c key found (xs ++ ys) ≡ last_before f l c key (last_before f l c key found xs) ys
     unfolding last_before
     last_append found [] ys = refl
-    last_append found (x ∷ xs) ys = last_append _ xs ys
+    last_append found (x ∷ xs) ys = last_append (cond (ltb x.correction c && equal key (route_in x)) x.correction found) xs ys
 
     -- the lines of c itself, and of those behind it, do not count
     last_own : (found m : ℕ) (es : List Entry) (i : ℕ) → AllOf m es → c ≤ m → last_before f l c key found (take i es) ≡ found
@@ -84,7 +84,7 @@ module _ (f l : List ℕ) where
     last_found m found [] a h t = absurd t
     last_found m found (e ∷ es) a h (inl t) =
         rw (lt-ltb e.correction c (omega (arith, a.0)), (equal_iff key (route_in e)).1 (sym t ∙ route_of_lem e), a.0) (last_kept m es a.1)
-    last_found m found (e ∷ es) a h (inr t) = last_found m _ es a.1 h t
+    last_found m found (e ∷ es) a h (inr t) = last_found m (cond (ltb e.correction c && equal key (route_in e)) e.correction found) es a.1 h t
 
     last_passed : (m found : ℕ) (es : List Entry) → ¬ Touches procedures (map (operation f l) es) key → last_before f l c key found es ≡ found
     unfolding last_before

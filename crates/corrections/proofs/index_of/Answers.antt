@@ -2,7 +2,6 @@
 use borrow.Author.Rules.{rules}
 use native.Mathlib.Omega.{arith}
 use mathlib.Core.Path.{sym, ◌∙◌}
-use Prim.Native.Nat.{◌-◌}
 use Rattle.corrections.proofs.IndexLaws.{index_start, grown_by}
 use Rattle.corrections.proofs.Turns.{advances, kept_start, kept_room, kept_sum, kept_less, kept_next, too_long_lem, reading_start, reading_stop, reading_next, reading_end}
 use Rattle.corrections.proofs.index_of.Goals as goal
@@ -14,28 +13,28 @@ pub loop-at-init : goal.loop-at-init
 loop-at-init c = (kept_start _ (search rules) index_start, reading_start _ _ (search rules) index_start c.room_beside-room.ensures)
 
 pub line_at-line-requires : goal.line_at-line-requires
-line_at-line-requires c =    let inv = c.loop-at.invariant in (omega (arith, inv.0.size, inv.0.inside), inv.0.begun)
+line_at-line-requires c = let inv = c.loop-at.invariant in (omega (arith, inv.0.size, inv.0.inside), inv.0.begun)
 
 pub returns-in-Refused : goal.returns-in-Refused
-returns-in-Refused c =    let inv = c.loop-at.invariant in
+returns-in-Refused c = let inv = c.loop-at.invariant in
     reading_stop _ _ _ _ _ c.loop-at-test.true inv.0.counted c.line_at-line.ensures
     c.judge_line-verdict.ensures c.in-Refused.is c.refused_by-in-Refused.ensures
     ∙ sym inv.1
 
 pub store_line-requires : goal.store_line-requires
-store_line-requires c =    let inv = c.loop-at.invariant in
+store_line-requires c = let inv = c.loop-at.invariant in
     let line = advances _ _ _ _ _ c.line_at-line.ensures c.judge_line-verdict.ensures c.in-Accepted.is in
     (kept_room inv.0 line, inv.0.begun, omega (arith, inv.0.size, inv.0.inside))
 
 pub count_after-count-requires : goal.count_after-count-requires
-count_after-count-requires c =    let inv = c.loop-at.invariant in
+count_after-count-requires c = let inv = c.loop-at.invariant in
     omega (arith, inv.0.size, inv.0.inside, inv.0.lines)
 
 pub width-at-requires : goal.width-at-requires
 width-at-requires c = c.loop-at.invariant.0.begun
 
 pub overflow_add-at : goal.overflow_add-at
-overflow_add-at c =    let inv = c.loop-at.invariant in
+overflow_add-at c = let inv = c.loop-at.invariant in
     let line = advances _ _ _ _ _ c.line_at-line.ensures c.judge_line-verdict.ensures c.in-Accepted.is in
     omega (arith, kept_sum inv.0 line c.width-at.ensures)
 
@@ -43,16 +42,16 @@ pub begun_after-begun-requires : goal.begun_after-begun-requires
 begun_after-begun-requires c = c.loop-at.invariant.0.begun
 
 pub overflow_add-number : goal.overflow_add-number
-overflow_add-number c =    let inv = c.loop-at.invariant in
+overflow_add-number c = let inv = c.loop-at.invariant in
     omega (arith, inv.0.size, inv.0.inside, inv.0.counted)
 
 pub loop-at-smaller : goal.loop-at-smaller
-loop-at-smaller c =    let inv = c.loop-at.invariant in
+loop-at-smaller c = let inv = c.loop-at.invariant in
     let line = advances _ _ _ _ _ c.line_at-line.ensures c.judge_line-verdict.ensures c.in-Accepted.is in
     kept_less inv.0 line c.width-at.ensures
 
 pub loop-at-preserved : goal.loop-at-preserved
-loop-at-preserved c =    let inv = c.loop-at.invariant in
+loop-at-preserved c = let inv = c.loop-at.invariant in
     let line = advances _ _ _ _ _ c.line_at-line.ensures c.judge_line-verdict.ensures c.in-Accepted.is in
     let more =
     grown_by _ _ c.loop-at.at _ _ _ c.line_at-line.result c.begun_after-begun.ensures

@@ -5,10 +5,10 @@ use Rattle.corrections.proofs.IndexLaws.{taken_fits, put_fits}
 use Rattle.corrections.proofs.store_line.Goals as goal
 
 pub store_change-requires : goal.store_change-requires
-store_change-requires c =    (taken_fits _ _ _ c.requires.0 c.in-TakenOut.is, search rules, search rules)
+store_change-requires c = (taken_fits _ _ _ c.requires.0 c.in-TakenOut.is, search rules, search rules)
 
 pub store_change-requires-in-PutIn : goal.store_change-requires-in-PutIn
-store_change-requires-in-PutIn c =    (put_fits _ _ _ c.requires.0 c.in-PutIn.is, search rules, search rules)
+store_change-requires-in-PutIn c = (put_fits _ _ _ c.requires.0 c.in-PutIn.is, search rules, search rules)
 
 pub returns-in-Heading : goal.returns-in-Heading
 returns-in-Heading c = rw c.in-Heading.is (refl, refl, refl)

@@ -1,5 +1,4 @@
 -- A law for each test. Assumes nothing.
-use Rattle.slices.proofs.Cases.{is_true, is_false}
 use Rattle.wanted.proofs.NumberLaws.{unfinished, empty_line, long_line, no_digits, all_are_digits}
 use Rattle.wanted.proofs.line_number.Goals as goal
 
@@ -13,8 +12,8 @@ pub returns-then-n-gt3 : goal.returns-then-n-gt3
 returns-then-n-gt3 c = long_line _ _ c.requires c.if-text-end.false c.if-n-gt3.true
 
 pub returns-then-not-all_digits : goal.returns-then-not-all_digits
-returns-then-not-all_digits c =    no_digits _ _ c.requires c.if-text-end.false c.if-n-eq0.false c.if-n-gt3.false c.all_digits.ensures (c.if-not-all_digits.true)
+returns-then-not-all_digits c = no_digits _ _ c.requires c.if-text-end.false c.if-n-eq0.false c.if-n-gt3.false c.all_digits.ensures (c.if-not-all_digits.true)
 
 pub returns : goal.returns
-returns c =    all_are_digits _ _ c.requires c.if-text-end.false c.if-n-eq0.false c.if-n-gt3.false c.all_digits.ensures (c.if-not-all_digits.false)
+returns c = all_are_digits _ _ c.requires c.if-text-end.false c.if-n-eq0.false c.if-n-gt3.false c.all_digits.ensures (c.if-not-all_digits.false)
     c.number.ensures

@@ -11,4 +11,4 @@ pub returns-in-Field : goal.returns-in-Field
 returns-in-Field c = rw c.in-Field.is
 
 pub returns-in-Byte : goal.returns-in-Byte
-returns-in-Byte c =    stop_at _ _ _ _ c.byte_at-w.ensures c.byte_at-n.ensures c.longest_run.ensures ∙ rw c.in-Byte.is
+returns-in-Byte c = stop_at _ _ _ _ c.byte_at-w.ensures c.byte_at-n.ensures c.longest_run.ensures ∙ rw c.in-Byte.is

@@ -16,10 +16,10 @@ unfolding encode primary
 primary_is_right-requires c = search rules
 
 pub returns-then-primary_is_right : goal.returns-then-primary_is_right
-returns-then-primary_is_right c =    let s = c.args in
+returns-then-primary_is_right c = let s = c.args in
     sym (every_zero (answer_of s.aim) s.rec.now primary (c.primary_is_right.ensures c.if-primary_is_right.true))
 
 pub returns : goal.returns
 unfolding primary encode
-returns c =    let s = c.args in
+returns c = let s = c.args in
     c.first_bad_by.ensures ∙ ap (λ (rs : List Row). first_of (answer_of s.aim) rs s.rec.now) (sym tied)

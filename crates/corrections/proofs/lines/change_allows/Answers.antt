@@ -12,7 +12,7 @@ unfolding change
 returns-then-k-eq1 c = rw c.if-k-eq1.true
 
 pub returns-then-k-lt134 : goal.returns-then-k-lt134
-returns-then-k-lt134 c =    rw (change_record _ _ c.if-k-eq0.false c.if-k-eq1.false c.if-k-lt134.true) c.is_printable.ensures
+returns-then-k-lt134 c = rw (change_record _ _ c.if-k-eq0.false c.if-k-eq1.false c.if-k-lt134.true) c.is_printable.ensures
 
 pub returns : goal.returns
 returns c = rw (change_end _ _ c.if-k-lt134.false c.requires)

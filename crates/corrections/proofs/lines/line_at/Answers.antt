@@ -11,28 +11,28 @@ pub overflow_add-result : goal.overflow_add-result
 overflow_add-result c = omega (arith, heading_at_most _ _ _ c.reach_heading.ensures)
 
 pub returns-then-begun-eq0 : goal.returns-then-begun-eq0
-returns-then-begun-eq0 c =    line_first _ _ _ c.heading_stands.ensures c.if-heading_stands.false c.if-begun-eq0.true c.reach_heading.ensures
+returns-then-begun-eq0 c = line_first _ _ _ c.heading_stands.ensures c.if-heading_stands.false c.if-begun-eq0.true c.reach_heading.ensures
 
 pub returns-then-change_stands : goal.returns-then-change_stands
-returns-then-change_stands c =    line_taken _ _ _ c.heading_stands.ensures c.if-heading_stands.false c.if-begun-eq0.false c.change_stands.ensures
+returns-then-change_stands c = line_taken _ _ _ c.heading_stands.ensures c.if-heading_stands.false c.if-begun-eq0.false c.change_stands.ensures
     c.if-change_stands.true
 
 pub returns-then-change_stands-2 : goal.returns-then-change_stands-2
-returns-then-change_stands-2 c =    line_put _ _ _ c.heading_stands.ensures c.if-heading_stands.false c.if-begun-eq0.false c.change_stands.ensures
+returns-then-change_stands-2 c = line_put _ _ _ c.heading_stands.ensures c.if-heading_stands.false c.if-begun-eq0.false c.change_stands.ensures
     c.if-change_stands.false c.change_stands-2.ensures c.if-change_stands-2.true
 
 pub overflow_add-result-2 : goal.overflow_add-result-2
-overflow_add-result-2 c =    omega (
-      arith,
-      c.greater-2.ensures,
-      c.greater.ensures,
-      heading_at_most _ _ _ c.reach_heading-headed.ensures,
-      change_at_most _ _ 68 c.reach_change-taken.ensures,
-      change_at_most _ _ 65 c.reach_change-put.ensures,
-    )
+overflow_add-result-2 c = omega (
+  arith,
+  c.greater-2.ensures,
+  c.greater.ensures,
+  heading_at_most _ _ _ c.reach_heading-headed.ensures,
+  change_at_most _ _ 68 c.reach_change-taken.ensures,
+  change_at_most _ _ 65 c.reach_change-put.ensures,
+)
 
 pub returns : goal.returns
-returns c =    line_stopped _ _ _ c.heading_stands.ensures c.if-heading_stands.false c.if-begun-eq0.false c.change_stands.ensures
+returns c = line_stopped _ _ _ c.heading_stands.ensures c.if-heading_stands.false c.if-begun-eq0.false c.change_stands.ensures
     c.if-change_stands.false c.change_stands-2.ensures c.if-change_stands-2.false
     c.reach_heading-headed.ensures c.reach_change-taken.ensures c.reach_change-put.ensures
     c.greater.ensures c.greater-2.ensures

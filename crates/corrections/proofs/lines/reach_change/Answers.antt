@@ -1,7 +1,5 @@
 -- The invariant: as many bytes go along from here as from the start. Assumes nothing.
 use mathlib.Core.Path.{sym, ◌∙◌}
-use Prim.Native.Nat.{◌-◌}
-use Rattle.slices.proofs.Cases.{is_true, is_false}
 use Rattle.corrections.specs.Lines.{change}
 use Rattle.corrections.proofs.ReachLaws.{along_start, along_end, change_stop, change_next}
 use borrow.Author.Rules.{rules}
@@ -11,17 +9,17 @@ pub loop-k-init : goal.loop-k-init
 loop-k-init c = (search rules, along_start _ _ _)
 
 pub returns-then-not-change_allows : goal.returns-then-not-change_allows
-returns-then-not-change_allows c =    sym (c.loop-k.invariant.1
+returns-then-not-change_allows c = sym (c.loop-k.invariant.1
     ∙ change_stop _ _ _ _ c.requires.1 c.loop-k-test.true c.byte_at.ensures
     c.change_allows.ensures (c.if-not-change_allows.true))
 
 pub loop-k-preserved : goal.loop-k-preserved
-loop-k-preserved c =    (
-      search rules,
-      c.loop-k.invariant.1
-          ∙ change_next _ _ _ _ c.requires.1 c.loop-k-test.true c.byte_at.ensures
-          c.change_allows.ensures (c.if-not-change_allows.false),
-    )
+loop-k-preserved c = (
+  search rules,
+  c.loop-k.invariant.1
+      ∙ change_next _ _ _ _ c.requires.1 c.loop-k-test.true c.byte_at.ensures
+      c.change_allows.ensures (c.if-not-change_allows.false),
+)
 
 pub returns : goal.returns
 unfolding change

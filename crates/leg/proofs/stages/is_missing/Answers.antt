@@ -8,5 +8,5 @@ pub returns-then-is_blank : goal.returns-then-is_blank
 returns-then-is_blank c = asked_blank _ c.asked.ensures c.is_blank.ensures c.if-is_blank.true
 
 pub returns-else-is_blank : goal.returns-else-is_blank
-returns-else-is_blank c =    let s = c.args in
+returns-else-is_blank c = let s = c.args in
     not_blank (asks_by (in_line s.lines.now s.n) s.both s.one.0) c.is_blank.ensures c.if-is_blank.false

@@ -1,7 +1,6 @@
 -- The invariant: the fields that are left give the answer. Assumes nothing.
 use borrow.Author.Rules.{rules}
 use mathlib.Core.Path.{refl}
-use Prim.Native.Nat.{◌-◌}
 use Rattle.leg.proofs.StageLaws.{counted, counted_at, missing_here, missing_on, missing_none}
 use Rattle.leg.specs.Stages.{needable}
 use Rattle.leg.proofs.stages.missing_column.Goals as goal
@@ -14,11 +13,11 @@ unfolding counted
 is_missing-requires c = (search rules, counted_at needable _ c.loop-i.i refl c.loop-i-test.true)
 
 pub returns-then-is_missing : goal.returns-then-is_missing
-returns-then-is_missing c =    let inv = c.loop-i.invariant in
+returns-then-is_missing c = let inv = c.loop-i.invariant in
     missing_here _ _ needable _ inv.1 _ c.loop-i-test.true c.is_missing.ensures c.if-is_missing.true
 
 pub loop-i-preserved : goal.loop-i-preserved
-loop-i-preserved c =    let inv = c.loop-i.invariant in
+loop-i-preserved c = let inv = c.loop-i.invariant in
     (search rules, missing_on _ _ needable _ inv.1 _ c.loop-i-test.true c.is_missing.ensures c.if-is_missing.false)
 
 pub returns : goal.returns

@@ -5,4 +5,4 @@ use Rattle.leg.proofs.stages.needed_column.Goals as goal
 
 pub returns : goal.returns
 unfolding needed_table
-returns c =    missing_by_line _ c.of-t.ensures c.byte_at-both.ensures c.number.ensures.0 c.missing_column.ensures
+returns c = missing_by_line _ c.of-t.ensures c.byte_at-both.ensures c.number.ensures.0 c.missing_column.ensures

@@ -5,4 +5,4 @@ use Rattle.fields.proofs.continuation.Continuation.render.Goals as goal
 
 pub returns : goal.returns
 unfolding render_continuation continuation_pieces
-returns c =    joined _ _ _ _ (joined _ _ _ _ c.put-2.ensures c.put_application.ensures) c.put.ensures
+returns c = joined _ _ _ _ (joined _ _ _ _ c.put-2.ensures c.put_application.ensures) c.put.ensures

@@ -5,4 +5,4 @@ use Rattle.fields.proofs.head.Head.put.Goals as goal
 
 pub returns : goal.returns
 unfolding head_pieces
-returns c =    joined _ _ _ _ c.put_place.ensures c.put.ensures
+returns c = joined _ _ _ _ c.put_place.ensures c.put.ensures

@@ -7,7 +7,7 @@ use Rattle.fields.proofs.head.Head.put_place.Goals as goal
 
 pub returns : goal.returns
 unfolding put_all place_pieces
-returns c =    over _ _ _ _ c.put_byte.ensures
+returns c = over _ _ _ _ c.put_byte.ensures
     (over _ _ _ _ c.put-3.ensures
     (over _ _ _ _ c.put-2.ensures
     (over _ _ _ _ c.put.ensures

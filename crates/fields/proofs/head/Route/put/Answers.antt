@@ -8,7 +8,7 @@ use Rattle.fields.proofs.head.Route.put.Goals as goal
 
 pub returns : goal.returns
 unfolding put_all route_pieces
-returns c =    skip _ _
+returns c = skip _ _
     (over _ _ _ _ c.put-5.ensures
     (over _ _ _ _ c.put_byte-4.ensures
     (over _ _ _ _ c.put-4.ensures

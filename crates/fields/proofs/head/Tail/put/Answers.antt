@@ -8,6 +8,6 @@ use Rattle.fields.proofs.head.Tail.put.Goals as goal
 
 pub returns : goal.returns
 unfolding put_all tail_pieces
-returns c =    over _ _ _ _ c.put_number-3.ensures
+returns c = over _ _ _ _ c.put_number-3.ensures
     (over _ _ _ _ c.put_number-2.ensures
     (over _ _ _ _ c.put_number.ensures refl))

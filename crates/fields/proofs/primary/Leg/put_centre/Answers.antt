@@ -8,7 +8,7 @@ use Rattle.fields.proofs.primary.Leg.put_centre.Goals as goal
 
 pub returns : goal.returns
 unfolding put_all centre_pieces
-returns c =    skip _ _
+returns c = skip _ _
     (over _ _ _ _ c.put-7.ensures
     (over _ _ _ _ c.put-6.ensures
     (skip _ _

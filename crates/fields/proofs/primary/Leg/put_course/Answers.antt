@@ -8,7 +8,7 @@ use Rattle.fields.proofs.primary.Leg.put_course.Goals as goal
 
 pub returns : goal.returns
 unfolding put_all course_pieces
-returns c =    skip _ _
+returns c = skip _ _
     (over _ _ _ _ c.put_byte.ensures
     (over _ _ _ _ c.put-6.ensures
     (over _ _ _ _ c.put-5.ensures

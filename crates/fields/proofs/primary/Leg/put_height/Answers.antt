@@ -8,7 +8,7 @@ use Rattle.fields.proofs.primary.Leg.put_height.Goals as goal
 
 pub returns : goal.returns
 unfolding put_all height_pieces
-returns c =    over _ _ _ _ c.put-6.ensures
+returns c = over _ _ _ _ c.put-6.ensures
     (over _ _ _ _ c.put-5.ensures
     (over _ _ _ _ c.put-4.ensures
     (over _ _ _ _ c.put-3.ensures

@@ -9,7 +9,7 @@ use Rattle.fields.proofs.primary.Leg.put_path.Goals as goal
 
 pub returns : goal.returns
 unfolding put_all path_pieces
-returns c =    over _ _ _ _ c.put-6.ensures
+returns c = over _ _ _ _ c.put-6.ensures
     (over _ _ _ _ c.put-5.ensures
     (over _ _ _ _ c.put-4.ensures
     (over _ _ _ _ (as_put _ _ _ c.put-3.ensures)

@@ -5,7 +5,7 @@ use Rattle.fields.proofs.primary.Leg.render.Goals as goal
 
 pub returns : goal.returns
 unfolding render_leg leg_pieces
-returns c =    joined_six _ _ _ _ _ _ _
+returns c = joined_six _ _ _ _ _ _ _
     c.put.ensures
     c.put_path.ensures
     c.put_course.ensures

@@ -9,13 +9,13 @@ unfolding altitude_of
 returns-then-blank_in c = simp (sym c.blank_in.ensures ∙ c.if-blank_in.true)
 
 pub returns-then-mark-eq70 : goal.returns-then-mark-eq70
-returns-then-mark-eq70 c =    altitude_level _ _ _ c.requires.2 (sym c.blank_in.ensures ∙ c.if-blank_in.false)
+returns-then-mark-eq70 c = altitude_level _ _ _ c.requires.2 (sym c.blank_in.ensures ∙ c.if-blank_in.false)
     c.byte_in-mark.ensures c.if-mark-eq70.true c.number_within.ensures
 
 pub returns-then-mark-eq45 : goal.returns-then-mark-eq45
-returns-then-mark-eq45 c =    altitude_below _ _ _ c.requires.2 (sym c.blank_in.ensures ∙ c.if-blank_in.false)
+returns-then-mark-eq45 c = altitude_below _ _ _ c.requires.2 (sym c.blank_in.ensures ∙ c.if-blank_in.false)
     c.byte_in-mark.ensures c.if-mark-eq45.true c.number_within-then-mark-eq45.ensures
 
 pub returns : goal.returns
-returns c =    altitude_feet _ _ _ c.requires.2 (sym c.blank_in.ensures ∙ c.if-blank_in.false)
+returns c = altitude_feet _ _ _ c.requires.2 (sym c.blank_in.ensures ∙ c.if-blank_in.false)
     c.byte_in-mark.ensures c.if-mark-eq70.false c.if-mark-eq45.false c.number_in.ensures

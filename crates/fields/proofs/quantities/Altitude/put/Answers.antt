@@ -10,12 +10,12 @@ returns-in-Absent c = rw c.in-Absent.is (skip _ _ refl)
 
 pub returns-in-Feet : goal.returns-in-Feet
 unfolding altitude_bytes
-returns-in-Feet c =    rw c.in-Feet.is (as_wide _ _ _ c.requires.2 c.put_number.ensures)
+returns-in-Feet c = rw c.in-Feet.is (as_wide _ _ _ c.requires.2 c.put_number.ensures)
 
 pub returns-in-Below : goal.returns-in-Below
 unfolding altitude_bytes
-returns-in-Below c =    rw c.in-Below.is c.put_marked.ensures
+returns-in-Below c = rw c.in-Below.is c.put_marked.ensures
 
 pub returns-in-Level : goal.returns-in-Level
 unfolding altitude_bytes
-returns-in-Level c =    rw c.in-Level.is c.put_marked-in-Level.ensures
+returns-in-Level c = rw c.in-Level.is c.put_marked-in-Level.ensures

@@ -14,4 +14,4 @@ returns-in-Magnetic c = rw c.in-Magnetic.is c.put_number.ensures
 
 pub returns-in-True : goal.returns-in-True
 unfolding course_bytes
-returns-in-True c =    rw c.in-True.is c.put_marked.ensures
+returns-in-True c = rw c.in-True.is c.put_marked.ensures

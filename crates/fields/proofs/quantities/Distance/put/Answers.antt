@@ -14,4 +14,4 @@ returns-in-Miles c = rw c.in-Miles.is c.put_number.ensures
 
 pub returns-in-Minutes : goal.returns-in-Minutes
 unfolding distance_bytes
-returns-in-Minutes c =    rw c.in-Minutes.is c.put_marked.ensures
+returns-in-Minutes c = rw c.in-Minutes.is c.put_marked.ensures

@@ -10,4 +10,4 @@ returns-in-Absent c = rw c.in-Absent.is (skip _ _ refl)
 
 pub returns-in-Down : goal.returns-in-Down
 unfolding vertical_angle_bytes
-returns-in-Down c =    rw c.in-Down.is c.put_marked.ensures
+returns-in-Down c = rw c.in-Down.is c.put_marked.ensures

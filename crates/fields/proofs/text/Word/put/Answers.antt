@@ -11,8 +11,8 @@ returns-in-Absent c = rw c.in-Absent.is (skip _ _ refl)
 
 pub returns-then-is_blank : goal.returns-then-is_blank
 unfolding bytes_of part
-returns-then-is_blank c =    rw c.in-Is.is (word_unfit _ _ _ _ c.is_blank.ensures c.if-is_blank.true c.put_byte.ensures)
+returns-then-is_blank c = rw c.in-Is.is (word_unfit _ _ _ _ c.is_blank.ensures c.if-is_blank.true c.put_byte.ensures)
 
 pub returns-else-is_blank : goal.returns-else-is_blank
 unfolding bytes_of part
-returns-else-is_blank c =    rw c.in-Is.is (word_is _ _ _ _ c.is_blank.ensures c.if-is_blank.false c.put.ensures)
+returns-else-is_blank c = rw c.in-Is.is (word_is _ _ _ _ c.is_blank.ensures c.if-is_blank.false c.put.ensures)

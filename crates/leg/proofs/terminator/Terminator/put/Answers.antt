@@ -9,5 +9,5 @@ use Rattle.leg.proofs.terminator.Terminator.put.Goals as goal
 
 pub returns : goal.returns
 unfolding name_of terminators texts codes
-returns c =    rw (c.copy.ensures, c.column.ensures, c.number-n.ensures.0)
+returns c = rw (c.copy.ensures, c.column.ensures, c.number-n.ensures.0)
     (ap (sets _ 47) (whole 2 (name_of _) (row_of _).its_width))
