@@ -41,7 +41,7 @@ fn main(rt: HostRuntime) -> io::Result<()> {
     let mut space = [0u8; 65536];
     let n = folder::read(&rt, b"records.txt", &mut space);
     if n == 0 {
-        return Err(io::Error::other("nothing can be read of records.txt"));
+        return Err(io::Error::new(io::ErrorKind::NotFound, "records.txt"));
     }
     let mut to = BufWriter::new(rt.alloc(), io::writer(&rt))?;
     print_answers(&mut to, &space[..n])?;

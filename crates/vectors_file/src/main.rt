@@ -126,22 +126,22 @@ fn print_files(
     Ok(())
 }
 
-// How many bytes a stored file has; one that has none is an error, as one that isn't there.
-fn stored(rt: &impl Files, path: &[u8], into: &mut [u8]) -> io::Result<usize>
+// How many bytes a stored file has. One that can't be read counts as having none, and is an error.
+fn stored(rt: &impl Files, name: &str, into: &mut [u8]) -> io::Result<usize>
     ensures { IfOk result (λ n. n ≤ length into.new) }
 {
-    let n = folder::read(rt, path, into);
+    let n = folder::read(rt, name.as_bytes(), into);
     if n == 0 {
-        return Err(io::Error::other("a stored file has nothing that can be read"));
+        return Err(io::Error::new(io::ErrorKind::NotFound, name));
     }
     Ok(n)
 }
 
 fn main(rt: HostRuntime) -> io::Result<()> {
     let mut bases = [0u8; 4096];
-    let b = stored(&rt, b"bases.bin", &mut bases)?;
+    let b = stored(&rt, "bases.bin", &mut bases)?;
     let mut instructions = [0u8; 65536];
-    let n = stored(&rt, b"files.bin", &mut instructions)?;
+    let n = stored(&rt, "files.bin", &mut instructions)?;
     let mut space = [0u8; 65536];
     let mut to = BufWriter::new(rt.alloc(), io::writer(&rt))?;
     print_files(&mut to, &bases[..b], &instructions[..n], &mut space)?;

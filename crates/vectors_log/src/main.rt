@@ -224,7 +224,7 @@ fn main(rt: HostRuntime) -> io::Result<()> {
     let mut instructions = [0u8; 65536];
     let n = folder::read(&rt, b"texts.bin", &mut instructions);
     if n == 0 {
-        return Err(io::Error::other("nothing can be read of texts.bin"));
+        return Err(io::Error::new(io::ErrorKind::NotFound, "texts.bin"));
     }
     let mut space = [0u8; 65536];
     let mut to = BufWriter::new(rt.alloc(), io::writer(&rt))?;

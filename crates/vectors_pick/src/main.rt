@@ -612,22 +612,22 @@ fn stored_space() -> [u8; 200000]
     [0; 200000]
 }
 
-// How many bytes a stored file has; one that has none is an error, as one that isn't there.
-fn stored(rt: &impl Files, path: &[u8], into: &mut [u8]) -> io::Result<usize>
+// How many bytes a stored file has. One that can't be read counts as having none, and is an error.
+fn stored(rt: &impl Files, name: &str, into: &mut [u8]) -> io::Result<usize>
     ensures { IfOk result (λ n. n ≤ length into.new) }
 {
-    let n = folder::read(rt, path, into);
+    let n = folder::read(rt, name.as_bytes(), into);
     if n == 0 {
-        return Err(io::Error::other("a stored file has nothing that can be read"));
+        return Err(io::Error::new(io::ErrorKind::NotFound, name));
     }
     Ok(n)
 }
 
 fn main(rt: HostRuntime) -> io::Result<()> {
     let mut records = stored_space();
-    let r = stored(&rt, b"records.bin", &mut records)?;
+    let r = stored(&rt, "records.bin", &mut records)?;
     let mut instructions = stored_space();
-    let n = stored(&rt, b"cases.bin", &mut instructions)?;
+    let n = stored(&rt, "cases.bin", &mut instructions)?;
     let mut frozen = [0u8; 65536];
     let mut log = [0u8; 65536];
     let mut wanted = [0u32; 1000];

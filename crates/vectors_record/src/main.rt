@@ -862,7 +862,7 @@ fn main(rt: HostRuntime) -> io::Result<()> {
     let mut space = [0u8; 65536];
     let n = folder::read(&rt, b"records.bin", &mut space);
     if n == 0 {
-        return Err(io::Error::other("nothing can be read of records.bin"));
+        return Err(io::Error::new(io::ErrorKind::NotFound, "records.bin"));
     }
     let mut to = BufWriter::new(rt.alloc(), io::writer(&rt))?;
     print_all(&mut to, &space[..n])?;

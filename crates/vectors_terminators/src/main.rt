@@ -96,7 +96,7 @@ fn print_pairs(to: &mut impl Write, base: [u8; 132]) -> io::Result<()> {
 fn main(rt: HostRuntime) -> io::Result<()> {
     let mut record = [0u8; 132];
     if folder::read(&rt, b"record.txt", &mut record) == 0 {
-        return Err(io::Error::other("nothing can be read of record.txt"));
+        return Err(io::Error::new(io::ErrorKind::NotFound, "record.txt"));
     }
     let mut to = BufWriter::new(rt.alloc(), io::writer(&rt))?;
     print_pairs(&mut to, record)?;
