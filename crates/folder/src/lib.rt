@@ -4,16 +4,18 @@
 // the answer counts no more than the buffer holds, and that the rest is 0.
 #![tactic(auto)]
 
-ghost use Rattle.std.specs.Prelude.{◌≡◌, ◌-◌, ◌≤◌, length, drop, replicate};
+ghost use Rattle.std.specs.Prelude.{◌≡◌, ◌-◌, ◌<◌, ◌≤◌, IfSome, length, take, drop, replicate};
 
 use std::fs;
 use std::io::Read;
 use std::rt::Files;
 
-// Reads until the buffer is full or the file ends, and answers how many bytes there are. An error midway leaves none of them: a file that
-// can't be read is never taken for the part that was.
+// Reads until the buffer is full or the file ends, and answers how many bytes there are: as many as the file has and the buffer holds. An error
+// midway leaves none of them: a file that can't be read is never taken for the part that was.
 fn read_open<F: Read>(file: &mut F, into: &mut [u8]) -> usize
-    ensures { result ≤ length into.new }
+    ensures counted { result ≤ length into.new }
+    ensures bytes { IfSome (F.remaining file.old)
+        (λ xs. 0 < result → take result into.new ≡ take (length into.old) xs) }
 {
     let mut done: usize = 0;
     while done < into.len() {
