@@ -1,7 +1,7 @@
 -- Laws of the lines of `why`: put together from their pieces, and what the code has of them is what the definitions say.
 -- Assumes nothing.
 use mathlib.Core.Path.{◌≡◌, refl, sym, ap, ap₂, subst, ◌∙◌}
-use mathlib.Core.Bool.{Bool, true, false, cond, not, ◌&&◌}
+use mathlib.Core.Bool.{Bool, true, false, cond, ◌&&◌}
 use mathlib.Core.List.{List, [], ◌∷◌, ◌++◌, map, append-nil, append_assoc}
 use mathlib.Core.Option.{none}
 use Prim.Native.Nat.{ℕ, zero, suc, ◌+◌, ◌-◌, ◌*◌, ◌≤◌, ◌<◌, min}
@@ -11,7 +11,7 @@ use lib.ListN.{length, get_or, take, drop, replicate, length-map, length-take, l
 use lib.Seq.{sets, take-suc, take_all}
 use borrow.Author.Tests.{eq-eqb, ne_eqb, leb-true, leb-false}
 use Rattle.slices.specs.Part.{part, padded}
-use Rattle.slices.proofs.Cases.{is_true, is_false, and_left, and_right}
+use Rattle.slices.proofs.Cases.{and_left, and_right}
 use Rattle.slices.proofs.PartLaws.{length_part}
 use Rattle.columns.specs.Patterns.{codes}
 use Rattle.refusals.specs.declared.Refusal.{Refusal}

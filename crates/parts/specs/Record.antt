@@ -13,7 +13,6 @@ use Rattle.fields.specs.Leg.{leg_of, render_leg}
 use Rattle.fields.specs.Continuation.{continuation_of, content_of, render_continuation}
 use Rattle.fields.specs.declared.primary.Leg.{Leg}
 use Rattle.fields.specs.declared.continuation.Continuation.{Continuation}
-use Rattle.parts.specs.declared.Parts.{Parts}
 use Rattle.parts.specs.declared.Parts.TheVariants as parts
 use Rattle.parts.specs.declared.Reading.{Reading}
 

@@ -11,8 +11,7 @@ use lib.ListN.{length, length-map}
 use Rattle.refusals.specs.declared.Verdict.TheVariants.{Accepted}
 use Rattle.corrections.specs.Text.{LegalLog}
 use Rattle.routes.specs.Files.{file_verdict}
-use Rattle.routes.specs.Legal.{lines, Wide}
-use Rattle.routes.specs.Places.{Every}
+use Rattle.routes.specs.Legal.{lines}
 use Rattle.routes.specs.Sources.{record_at, records}
 use Rattle.routes.proofs.Lines.{file_iff}
 use Rattle.history.specs.Format as H

@@ -21,7 +21,7 @@ use Rattle.history.specs.Demand.{Carried}
 use Rattle.history.specs.Growing.{Counted}
 use Rattle.history.proofs.Growing as history
 use Rattle.applying.specs.Procedures.{procedures, op_of, log_of}
-use Rattle.selection.specs.Pick.{wants, members_from, picked, new_records}
+use Rattle.selection.specs.Pick.{wants, members_from, new_records}
 use Rattle.selection.specs.Demand.{with_relied}
 use Rattle.selection.specs.Growing.{AllIn, lines_in, Answerable, Picks, new_file, NoneMoreTouches}
 use Rattle.selection.proofs.Demand.{pick_iff, picked_demand}

@@ -29,7 +29,7 @@ last_line : (f l : List ℕ) (n : ℕ) (key : List ℕ) (index : Index) (found i
     (last_before f l n key found (entries_from index i j))
 unfolding last_before entries_from
 last_line f l n key index found i zero = let e : i + 0 ≡ i = omega arith in rw e
-last_line f l n key index found i (suc j) = let e : i + suc j ≡ i + 1 + j = omega arith in 
+last_line f l n key index found i (suc j) = let e : i + suc j ≡ i + 1 + j = omega arith in
     rw e
     (last_line f l n key index (cond (ltb (get_or index.correction i 0) n && equal key (key_of (record_of_line f l (entry_at index i)))) (get_or index.correction i 0) found) (i + 1) j)
 

@@ -3,17 +3,16 @@
 -- Assumes nothing.
 use mathlib.Core.Path.{◌≡◌, refl, sym, ap, subst, ◌∙◌}
 use mathlib.Core.Logic.Iff
-use mathlib.Core.Logic.{◌↔◌, ◌⊎◌, inl, inr}
+use mathlib.Core.Logic.{◌↔◌}
 use mathlib.Core.Bool.{Bool, true, false, ◌&&◌, ◌||◌, false≢true}
 use mathlib.Core.List.{List, [], ◌∷◌, ◌++◌, map}
 use mathlib.Core.Option.{Option, none, some}
-use Prim.Native.Nat.{ℕ, ◌+◌, ◌≤◌, ◌<◌}
+use Prim.Native.Nat.{ℕ, ◌+◌, ◌≤◌}
 use native.Mathlib.Omega.{arith}
 use lib.Dec.{eqb, ltb}
-use lib.ListN.{length}
 use borrow.Author.Tests.{eq-eqb, ne_eqb, eqb-true, eqb-false, lt-ltb, ltb-true}
-use Rattle.slices.proofs.Cases.{split, or_left, or_right, or_iff}
-use Rattle.refusals.specs.Table.{cut_short, field_content, companion_blank, needed_blank, not_in_log, does_not_apply, route_refused, buffer_too_short}
+use Rattle.slices.proofs.Cases.{split, or_iff}
+use Rattle.refusals.specs.Table.{cut_short, field_content, companion_blank, needed_blank}
 use Rattle.refusals.specs.declared.Refusal.{Refusal}
 use Rattle.refusals.specs.declared.Verdict.{Verdict}
 use Rattle.refusals.specs.declared.Verdict.TheVariants.{Accepted, Refused}
@@ -37,16 +36,16 @@ use Rattle.routes.specs.InTurn.{in_turn}
 use Rattle.routes.specs.Places.{Every}
 use Rattle.routes.specs.First.{First}
 use Rattle.routes.specs.Files.{file_verdict}
-use Rattle.routes.specs.Sources.{records, in_use, sources_of}
+use Rattle.routes.specs.Sources.{in_use, sources_of}
 use Rattle.routes.proofs.InTurnLaws as turns
 use Rattle.routes.proofs.FirstLaws.{first_iff, file_refuses}
-use Rattle.corrections.specs.Reading.{Entry, Reading, refused, said, read_log}
+use Rattle.corrections.specs.Reading.{Entry, Reading, refused, said}
 use Rattle.applying.specs.Apply.{lines_applied, fails_at, touched_judged, refused_route}
 use Rattle.applying.specs.Correct.{Outcome, stopped, reached, corrected, corrected_by, after_lines, after_judging}
 use Rattle.applying.specs.Run.{by_correction, ran, ran_by, onward}
-use Rattle.selection.specs.Pick.{length_stage, if_accepted, opened, wanted_stage, everything, Pick, refused_by, picked, judged_first, ran_first, outcome_verdict, carried, taken_of, members_from, log_judged, log_verdict, pick_from, pick_of, file_pick}
+use Rattle.selection.specs.Pick.{length_stage, if_accepted, opened, wanted_stage, everything, Pick, refused_by, picked, judged_first, ran_first, outcome_verdict, carried, log_judged, log_verdict, pick_from, pick_of, file_pick}
 use Rattle.selection.proofs.OpenedLaws.{said_opening}
-use Rattle.selection.proofs.PickSteps.{Whole, whole_picks}
+use Rattle.selection.proofs.PickSteps.{whole_picks}
 use Rattle.selection.proofs.Answers.{picked_not_refused}
 use Rattle.answers.specs.Answers.{answered}
 use Rattle.statements.specs.Order.{record_order, companion_order, needed_stage, needed_order, read_order, room_stage, write_order, file_order, lines_stage, numbers_stage, corrections_stage, reading, check_order, pick_order, new_file_order, NotInLog, FirstWanted, at, behind, FirstCorrection, unapplied, route}

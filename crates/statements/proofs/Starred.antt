@@ -37,8 +37,8 @@ use Rattle.history.specs.Sets.{add, numbered, last_on, add_relied, closure_to}
 use Rattle.history.specs.Bytes.{same?}
 use Rattle.applying.specs.State.{with_source, without_record, count_before, not_before, has_place, is_record, put_at, left_out}
 use Rattle.applying.specs.Apply.{lines_applied, line_applied, fails_at, touched, together, touched_judged, refused_route}
-use Rattle.applying.specs.Correct.{corrected, corrected_by, fault_as}
-use Rattle.applying.specs.Run.{leading_lines, by_correction, ran, ran_by}
+use Rattle.applying.specs.Correct.{corrected_by, fault_as}
+use Rattle.applying.specs.Run.{leading_lines, by_correction, ran_by}
 use Rattle.applying.specs.Procedures.{operation, operations}
 use Rattle.selection.specs.Pick.{length_stage, opened, wanted_stage, wants, members_from, carried, taken_of, pick_of, line_in}
 use Rattle.selection.specs.Failing.{line_feeds, line_at, failure_as, failure_of, settled}

@@ -3,7 +3,7 @@
 -- slice, its bytes are equal. `Post` is the function's own contract, as it is made from the source: `Reads` has what its `ensures` says of the
 -- arguments, the result and the parameters at exit, and `Kinds` the types of its parameters and of its result.
 -- Assumes nothing.
-use mathlib.Core.Path.{◌≡◌, refl, sym, ap, ◌∙◌}
+use mathlib.Core.Path.{refl, sym, ap, ◌∙◌}
 use mathlib.Core.List.{List}
 use Prim.Native.Nat.{ℕ}
 use Rattle.slices.proofs as slices

@@ -2,7 +2,7 @@
 -- verdict of the whole input, and the answer is the first of them that refuses (`First`, in routes/specs/First). A stage that looks at many
 -- things, records, wanted numbers or corrections one after the other, is said below as a relation of its own.
 -- Assumes nothing.
-use Rattle.std.specs.Prelude.{ℕ, ◌+◌, ◌≤◌, ◌<◌, ◌≡◌, Bool, cond, ◌&&◌, ◌⊎◌, List, [], ◌∷◌, ◌++◌, map, eqb, ltb, length}
+use Rattle.std.specs.Prelude.{ℕ, ◌+◌, ◌<◌, ◌≡◌, Bool, cond, ◌&&◌, ◌⊎◌, List, [], ◌∷◌, ◌++◌, map, eqb, ltb, length}
 use Prim.Native.Char.{code}
 use Rattle.std.proofs.Math.Option.{none, some}
 use Rattle.refusals.specs.Table.{cut_short, field_content, companion_blank, needed_blank, does_not_apply, route_refused, not_in_log, buffer_too_short}

@@ -14,9 +14,9 @@ pub slice_bounds-pick-end : goal.slice_bounds-pick-end
 slice_bounds-pick-end c = wanted_counted _ c.numbers-wanted.ensures
 
 pub put_picked-requires : goal.put_picked-requires
-put_picked-requires c =    taken_within _ _ _ _ (wanted_numbers _ c.numbers-wanted.ensures) c.pick-picked.ensures
+put_picked-requires c = taken_within _ _ _ _ (wanted_numbers _ c.numbers-wanted.ensures) c.pick-picked.ensures
 
 pub returns : goal.returns
-returns c =    let text = pick_text_lem _ _ _ _ (wanted_numbers _ c.numbers-wanted.ensures) c.pick-picked.ensures in
+returns c = let text = pick_text_lem _ _ _ _ (wanted_numbers _ c.numbers-wanted.ensures) c.pick-picked.ensures in
     let room = c.if-out-lt-LONGEST_PICK.false in
     left_wrote _ _ room c.clear.ensures (rw text at c.put_picked.ensures) (pick_fits _ _ _) c.written.ensures

@@ -18,5 +18,5 @@ pub put_explained-requires : goal.put_explained-requires
 put_explained-requires c = explained_few _ _ _ c.reasons-explained.ensures
 
 pub returns : goal.returns
-returns c =    let text = why_text_lem _ _ _ _ (wanted_numbers _ c.numbers-wanted.ensures) c.reasons-explained.ensures in
+returns c = let text = why_text_lem _ _ _ _ (wanted_numbers _ c.numbers-wanted.ensures) c.reasons-explained.ensures in
     left_wrote _ _ c.if-out-lt-LONGEST_WHY.false c.clear.ensures (rw text at c.put_explained.ensures) (why_fits _ _ _) c.written.ensures

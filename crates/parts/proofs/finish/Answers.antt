@@ -6,14 +6,14 @@ use borrow.Author.Rules.{rules}
 use Rattle.parts.proofs.finish.Goals as goal
 
 pub returns-then-out-lt133 : goal.returns-then-out-lt133
-returns-then-out-lt133 c =    let r = c.refuse.ensures in
+returns-then-out-lt133 c = let r = c.refuse.ensures in
     finish_short _ _ c.if-out-lt133.true (r.0 ∙ ap Refused c.buffer_too_short.ensures) r.1
 
 pub returns-in-Accepted : goal.returns-in-Accepted
-returns-in-Accepted c =    let room = c.if-out-lt133.false in
+returns-in-Accepted c = let room = c.if-out-lt133.false in
     finish_accepted _ _ room c.judge_parts-verdict.ensures c.in-Accepted.is
     (with_feed c.args.rec _ (search rules) room _ _ c.copy.ensures c.put_after.ensures c.clear_from.ensures)
 
 pub returns-in-Refused : goal.returns-in-Refused
-returns-in-Refused c =    let r = c.refuse-in-Refused.ensures in
+returns-in-Refused c = let r = c.refuse-in-Refused.ensures in
     finish_refused _ _ c.if-out-lt133.false c.judge_parts-verdict.ensures c.in-Refused.is r.0 r.1

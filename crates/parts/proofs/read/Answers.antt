@@ -12,7 +12,7 @@ pub slice_bounds-rec-end : goal.slice_bounds-rec-end
 slice_bounds-rec-end c = columns_count _ c.size_column-column.ensures c.if-column-ne0.false
 
 pub returns-in-Accepted : goal.returns-in-Accepted
-returns-in-Accepted c =    answer_accepted _ c.size_column-column.ensures c.if-column-ne0.false c.judge-verdict.ensures c.in-Accepted.is c.reading_of.ensures
+returns-in-Accepted c = answer_accepted _ c.size_column-column.ensures c.if-column-ne0.false c.judge-verdict.ensures c.in-Accepted.is c.reading_of.ensures
 
 pub returns-in-Refused : goal.returns-in-Refused
-returns-in-Refused c =    answer_refused _ c.size_column-column.ensures c.if-column-ne0.false c.judge-verdict.ensures c.in-Refused.is c.refused-in-Refused.ensures
+returns-in-Refused c = answer_refused _ c.size_column-column.ensures c.if-column-ne0.false c.judge-verdict.ensures c.in-Refused.is c.refused-in-Refused.ensures

@@ -1,4 +1,3 @@
-
 use native.Mathlib.Nat.{sub-zero}
 use mathlib.Core.Path.{refl}
 use Rattle.parts.proofs.refuse.Goals as goal

@@ -17,7 +17,7 @@ unfolding records
 judge_tail-tail-requires c = rw c.count_records-count.ensures (at_most 480 _)
 
 pub returns : goal.returns
-returns c =    let short = c.if-file-gt-LONGEST_FILE.false in
+returns c = let short = c.if-file-gt-LONGEST_FILE.false in
     not_too_long _ short
     (own_walk _ refl c.count_records-count.ensures short c.sources_to-pieces.ensures (known_nothing _ _ 1) c.walk-judged.ensures)
     (own_tail _ c.count_records-count.ensures c.judge_tail-tail.ensures)

@@ -8,7 +8,7 @@ use borrow.Author.Rules.{rules}
 use Rattle.routes.proofs.judge_known.Goals as goal
 
 pub returns-then-stand : goal.returns-then-stand
-returns-then-stand c =    let s = c.args.sources in
+returns-then-stand c = let s = c.args.sources in
     let long : length s.at ≡ 480 = let good = c.well_formed.1.1.1.0 in search rules in
     glanced _ _ _ s long c.args.from _ (c.least-end.ensures ∙ ap (min _) c.least.ensures) (c.stand.ensures c.if-stand.true)
 

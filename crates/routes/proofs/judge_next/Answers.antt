@@ -7,4 +7,4 @@ pub returns-then-known : goal.returns-then-known
 returns-then-known c = c.judge_behind-behind.ensures ∙ judges_known _ _ _ _ c.if-known.true
 
 pub returns : goal.returns
-returns c =    judges_unknown _ _ _ _ c.if-known.false (c.in_turn.ensures ∙ rw (c.judge-alone.ensures, c.judge_behind-behind.ensures))
+returns c = judges_unknown _ _ _ _ c.if-known.false (c.in_turn.ensures ∙ rw (c.judge-alone.ensures, c.judge_behind-behind.ensures))

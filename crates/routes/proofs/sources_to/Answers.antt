@@ -1,6 +1,5 @@
 -- The invariant: the sources so far. Assumes nothing.
 use mathlib.Core.Path.{◌≡◌, ap, ◌∙◌}
-use Prim.Native.Nat.{◌-◌}
 use native.Mathlib.Omega.{arith}
 use Rattle.routes.specs.Sources.{sources_to}
 use Rattle.routes.proofs.SourceLaws.{sources_start, sources_next}
@@ -14,5 +13,5 @@ pub loop-i-preserved : goal.loop-i-preserved
 loop-i-preserved c = (search rules, search rules, sources_next _ _ (omega arith) c.loop-i.invariant.2)
 
 pub returns : goal.returns
-returns c =    let e : c.loop-i.i ≡ c.args.n = omega arith in
+returns c = let e : c.loop-i.i ≡ c.args.n = omega arith in
     c.loop-i.invariant.2 ∙ ap sources_to e

@@ -9,4 +9,4 @@ pub returns-in-Accepted : goal.returns-in-Accepted
 returns-in-Accepted c = failing_opened _ _ _ c.opening-index.ensures c.in-Accepted.is c.whole.ensures
 
 pub returns-in-Refused : goal.returns-in-Refused
-returns-in-Refused c =    failing_not_opened _ _ _ c.opening-index.ensures c.in-Refused.is c.failure_by.ensures
+returns-in-Refused c = failing_not_opened _ _ _ c.opening-index.ensures c.in-Refused.is c.failure_by.ensures

@@ -13,4 +13,4 @@ pub returns-then-n-gt-MOST_RECORDS : goal.returns-then-n-gt-MOST_RECORDS
 returns-then-n-gt-MOST_RECORDS c = line_far _ _ _ _ (search rules) c.if-n-gt-MOST_RECORDS.true
 
 pub returns : goal.returns
-returns c =    line_is _ _ _ _ c.if-n-eq0.false c.if-count-n.false c.if-n-gt-MOST_RECORDS.false (search rules) c.record_at.ensures
+returns c = line_is _ _ _ _ c.if-n-eq0.false c.if-count-n.false c.if-n-gt-MOST_RECORDS.false (search rules) c.record_at.ensures

@@ -9,4 +9,4 @@ pub returns-in-Accepted : goal.returns-in-Accepted
 returns-in-Accepted c = reasons_opened _ _ _ c.opening-index.ensures c.in-Accepted.is _ c.reasons_from.ensures
 
 pub returns-in-Refused : goal.returns-in-Refused
-returns-in-Refused c =    reasons_not_opened _ _ _ c.opening-index.ensures _ c.in-Refused.is c.failure_by.ensures c.no_reasons.ensures
+returns-in-Refused c = reasons_not_opened _ _ _ c.opening-index.ensures _ c.in-Refused.is c.failure_by.ensures c.no_reasons.ensures

@@ -5,11 +5,11 @@ use native.Mathlib.Omega.{arith}
 use Rattle.answers.proofs.pieces.put_tabbed.Goals as goal
 
 pub put_decimal-requires : goal.put_decimal-requires
-put_decimal-requires c =    let n = c.args.n in
+put_decimal-requires c = let n = c.args.n in
     let few = (decimal_width n).1 in
     omega (arith, few, c.requires)
 
 pub returns : goal.returns
-returns c =    let n = c.args.n in
+returns c = let n = c.args.n in
     let few = (decimal_width n).1 in
     (wrote_tabbed _ c.put_after.ensures c.put_decimal.ensures, omega (arith, few, c.put_decimal.ensures.stops))

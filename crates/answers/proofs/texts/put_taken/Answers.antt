@@ -1,19 +1,18 @@
 -- The invariant: the lines of the first i corrections are written. Assumes nothing.
 use Rattle.answers.proofs.LineLaws.{taken_start, taken_next}
-use Prim.Native.Nat.{◌-◌}
 use mathlib.Core.Path.{◌≡◌, refl}
 use borrow.Author.Rules.{rules}
 use native.Mathlib.Omega.{arith}
 use Rattle.answers.proofs.texts.put_taken.Goals as goal
 
 pub loop-i-init : goal.loop-i-init
-loop-i-init c =    (search rules, refl, c.requires.0, search rules, omega (arith, c.requires.1), taken_start c.args.picked.taken _ _)
+loop-i-init c = (search rules, refl, c.requires.0, search rules, omega (arith, c.requires.1), taken_start c.args.picked.taken _ _)
 
 pub put_take-end-requires : goal.put_take-end-requires
 put_take-end-requires c = let inv = c.loop-i.invariant in omega (arith, inv.2, inv.4, c.loop-i-test.true)
 
 pub loop-i-preserved : goal.loop-i-preserved
-loop-i-preserved c =    let inv = c.loop-i.invariant in
+loop-i-preserved c = let inv = c.loop-i.invariant in
     let i = c.loop-i.i in
     let numbers = c.args.picked.taken in (
       search rules,
@@ -25,7 +24,7 @@ loop-i-preserved c =    let inv = c.loop-i.invariant in
     )
 
 pub returns : goal.returns
-returns c =    let inv = c.loop-i.invariant in
+returns c = let inv = c.loop-i.invariant in
     let picked = c.args.picked in
     let e : c.loop-i.i ≡ picked.count = omega (arith, inv.0, inv.1, c.loop-i-test.false) in
     rw e at inv.5

@@ -1,6 +1,5 @@
 -- The invariant: the lines of the first i corrections are written. Assumes nothing.
 use Rattle.answers.proofs.WhyLaws.{lines_start, lines_next}
-use Prim.Native.Nat.{◌-◌}
 use mathlib.Core.Path.{◌≡◌, refl}
 use native.Mathlib.Omega.{arith}
 use Rattle.answers.proofs.whys.put_reasons.Goals as goal
@@ -12,10 +11,10 @@ pub put_reason-end-requires : goal.put_reason-end-requires
 put_reason-end-requires c = let inv = c.loop-i.invariant in omega (arith, inv.2, inv.3, c.loop-i-test.true)
 
 pub loop-i-preserved : goal.loop-i-preserved
-loop-i-preserved c =    let inv = c.loop-i.invariant in
+loop-i-preserved c = let inv = c.loop-i.invariant in
     (omega (arith, c.loop-i-test.true), inv.1, inv.2, omega (arith, inv.3, c.put_reason-end.ensures.1), lines_next _ _ _ _ inv.4 c.record_at-rec.ensures c.put_reason-end.ensures.0)
 
 pub returns : goal.returns
-returns c =    let inv = c.loop-i.invariant in
+returns c = let inv = c.loop-i.invariant in
     let e : c.loop-i.i ≡ c.args.explained.count = omega (arith, inv.0, inv.1, c.loop-i-test.false) in
     rw e at inv.4

@@ -2,7 +2,6 @@
 use Rattle.applying.proofs.RisingLaws.{line_in_order}
 use Rattle.applying.proofs.ApplyLaws.{gave_some, lines_done, lines_failed, lines_go_on, none_fails, fails_here, fails_later}
 use mathlib.Core.Path.{refl, sym, ◌∙◌}
-use Prim.Native.Nat.{◌-◌}
 use Rattle.slices.proofs.Cases.{is_false, is_true}
 use borrow.Author.Rules.{rules}
 use native.Mathlib.Omega.{arith}

@@ -5,9 +5,8 @@ use Rattle.applying.specs.Apply.{RouteStands, in_rows}
 use Rattle.applying.specs.State.{held}
 use Rattle.routes.specs.Sources.{log_source, in_use}
 use lib.ListN.{get_or}
-use Prim.Native.Nat.{ℕ, ◌-◌}
+use Prim.Native.Nat.{ℕ}
 use mathlib.Core.Bool.{false≢true}
-use Rattle.slices.proofs.Cases.{is_true}
 use native.Mathlib.Omega.{arith}
 use Rattle.applying.proofs.judge.all_stand.Goals as goal
 

@@ -3,7 +3,7 @@ use Rattle.applying.proofs.JudgeLaws.{end_within, route_walked, route_refused_le
 use Rattle.refusals.specs.declared.Verdict.{Verdict}
 use mathlib.Core.Path.{refl, sym, ap, ◌∙◌}
 use mathlib.Core.List.{List, []}
-use Prim.Native.Nat.{ℕ, ◌-◌}
+use Prim.Native.Nat.{ℕ}
 use Rattle.applying.specs.State.{held}
 use native.Mathlib.Omega.{arith}
 use Rattle.applying.proofs.judge.judge_in_turn.Goals as goal

@@ -1,9 +1,7 @@
 -- The invariant: what is left of the route gives its end. Assumes nothing.
 use Rattle.applying.proofs.JudgeLaws.{together_end, together_stop, together_next}
 use mathlib.Core.Path.{refl}
-use Prim.Native.Nat.{◌-◌}
 use Rattle.applying.specs.State.{held}
-use Rattle.slices.proofs.Cases.{is_false, is_true}
 use native.Mathlib.Omega.{arith}
 use Rattle.applying.proofs.judge.route_end.Goals as goal
 

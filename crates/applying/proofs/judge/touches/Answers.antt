@@ -1,7 +1,6 @@
 -- The invariant: the lines that are left give the answer. Assumes nothing.
 use Rattle.applying.proofs.JudgeLaws.{touched_end, touched_found, touched_next}
 use mathlib.Core.Path.{refl, sym, ◌∙◌}
-use Prim.Native.Nat.{◌-◌}
 use native.Mathlib.Omega.{arith}
 use Rattle.applying.proofs.judge.touches.Goals as goal
 

@@ -1,5 +1,4 @@
 -- The invariant: what is known is so. Assumes nothing.
-use Prim.Native.Nat.{◌-◌}
 use Rattle.applying.proofs.known.learn_lines.Goals as goal
 
 pub learn_line-requires : goal.learn_line-requires

@@ -1,7 +1,6 @@
 -- The invariant: what is left of the lines gives their end. Assumes nothing.
 use Rattle.applying.proofs.RunLaws.{leading_end, leading_stop, leading_next}
 use mathlib.Core.Path.{refl}
-use Prim.Native.Nat.{◌-◌}
 use native.Mathlib.Omega.{arith}
 use Rattle.applying.proofs.series.lines_end.Goals as goal
 

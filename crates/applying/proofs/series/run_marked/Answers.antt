@@ -1,7 +1,6 @@
 -- The invariant: the corrections that are left, over the state so far, give the answer. Assumes nothing.
 use Rattle.applying.proofs.RunLaws.{counted, run_starts, run_of_rows, run_ends, run_stops, run_goes_on, order_goes_on}
 use mathlib.Core.Path.{refl, subst}
-use Prim.Native.Nat.{◌-◌}
 use Rattle.applying.specs.Correct.{Comes}
 use borrow.Author.Rules.{rules}
 use native.Mathlib.Omega.{arith}

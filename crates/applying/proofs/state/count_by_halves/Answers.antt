@@ -2,7 +2,6 @@
 use Rattle.applying.proofs.RisingLaws.{half_reached, half_passed, halves_end}
 use Rattle.applying.proofs.StateLaws.{search_starts}
 use mathlib.Core.Path.{refl}
-use Prim.Native.Nat.{◌-◌}
 use mathlib.Core.Logic.{inl}
 use native.Mathlib.Omega.{arith}
 use Rattle.applying.proofs.state.count_by_halves.Goals as goal

@@ -1,7 +1,6 @@
 -- The invariant: what is left out where the loop stands gives the answer. Assumes nothing.
 use Rattle.applying.proofs.ShiftLaws.{out_step, out_done}
 use mathlib.Core.Path.{refl, ◌∙◌}
-use Prim.Native.Nat.{◌-◌}
 use Rattle.routes.specs.Sources.{in_use}
 use borrow.Author.Rules.{rules}
 use native.Mathlib.Omega.{arith}

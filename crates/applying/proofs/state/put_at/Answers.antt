@@ -1,7 +1,6 @@
 -- The invariant: what is carried, put in where the loop stands, gives the answer. Assumes nothing.
 use Rattle.applying.proofs.ShiftLaws.{put_step, put_done}
 use mathlib.Core.Path.{refl, ◌∙◌}
-use Prim.Native.Nat.{◌-◌}
 use Rattle.routes.specs.Sources.{in_use}
 use borrow.Author.Rules.{rules}
 use native.Mathlib.Omega.{arith}

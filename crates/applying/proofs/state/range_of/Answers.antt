@@ -1,6 +1,5 @@
 -- The invariant: what is left to be copied behind what was found gives the answer. Assumes nothing.
 use Rattle.applying.proofs.RangeLaws.{range_start, range_next, range_end}
-use Prim.Native.Nat.{◌-◌}
 use Rattle.applying.specs.State.{held}
 use native.Mathlib.Omega.{arith}
 use Rattle.applying.proofs.state.range_of.Goals as goal

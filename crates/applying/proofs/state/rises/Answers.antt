@@ -1,7 +1,6 @@
 -- The invariant: the places of the first i rise. Assumes nothing.
 use Rattle.applying.proofs.RisingLaws.{tested_next, tested_all}
 use Rattle.applying.specs.State.{held}
-use Prim.Native.Nat.{◌-◌}
 use mathlib.Core.Bool.{false≢true}
 use native.Mathlib.Omega.{arith}
 use Rattle.applying.proofs.state.rises.Goals as goal

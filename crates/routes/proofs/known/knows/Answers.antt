@@ -1,6 +1,5 @@
 -- By what the slot holds. Assumes nothing.
 use Rattle.routes.proofs.KnownLaws.{knows_none, knows_held}
-use native.Mathlib.Omega.{arith}
 use Rattle.routes.proofs.known.knows.Goals as goal
 
 pub returns-then-known-i : goal.returns-then-known-i

@@ -4,4 +4,4 @@ use Rattle.routes.proofs.pairs.may_begin.Goals as goal
 
 pub returns : goal.returns
 unfolding beginnings_table
-returns c =    rw (c.byte_at.ensures, c.number-n.ensures.0) (beginning_cell _ _ c.requires)
+returns c = rw (c.byte_at.ensures, c.number-n.ensures.0) (beginning_cell _ _ c.requires)

@@ -14,21 +14,21 @@ returns-else-awaits c = simp (sym c.awaits.ensures ∙ c.if-awaits.false, c.in-P
 
 pub returns-then-byte_at-number_after : goal.returns-then-byte_at-number_after
 unfolding continuation_column
-returns-then-byte_at-number_after c =    rw (
-      c.in-Continuation.is,
-      ← c.byte_at.ensures,
-      ← c.byte_at-in-Continuation.ensures,
-      ← c.number_after.ensures,
-      eq-eqb _ _ c.if-byte_at-number_after.true,
-      c.first_difference.ensures,
-    )
+returns-then-byte_at-number_after c = rw (
+  c.in-Continuation.is,
+  ← c.byte_at.ensures,
+  ← c.byte_at-in-Continuation.ensures,
+  ← c.number_after.ensures,
+  eq-eqb _ _ c.if-byte_at-number_after.true,
+  c.first_difference.ensures,
+)
 
 pub returns-else-byte_at-number_after : goal.returns-else-byte_at-number_after
 unfolding continuation_column
-returns-else-byte_at-number_after c =    rw (
-      c.in-Continuation.is,
-      ← c.byte_at.ensures,
-      ← c.byte_at-in-Continuation.ensures,
-      ← c.number_after.ensures,
-      ne_eqb _ _ c.if-byte_at-number_after.false,
-    )
+returns-else-byte_at-number_after c = rw (
+  c.in-Continuation.is,
+  ← c.byte_at.ensures,
+  ← c.byte_at-in-Continuation.ensures,
+  ← c.number_after.ensures,
+  ne_eqb _ _ c.if-byte_at-number_after.false,
+)

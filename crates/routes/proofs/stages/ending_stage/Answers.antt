@@ -1,12 +1,11 @@
 -- By whether it is the last leg, and may be. Assumes nothing.
 use mathlib.Core.Path.{sym, ◌∙◌}
 use Rattle.routes.specs.Stages.{ending_stage}
-use Rattle.slices.proofs.Cases.{is_false, is_true}
 use Rattle.routes.proofs.stages.ending_stage.Goals as goal
 
 pub returns-then-not-last_leg : goal.returns-then-not-last_leg
 unfolding ending_stage
-returns-then-not-last_leg c =    rw (c.leg_ending.ensures, c.if-last.true, sym c.last_leg.ensures ∙ c.if-not-last_leg.true)
+returns-then-not-last_leg c = rw (c.leg_ending.ensures, c.if-last.true, sym c.last_leg.ensures ∙ c.if-not-last_leg.true)
 
 pub returns-else-not-last_leg : goal.returns-else-not-last_leg
 unfolding ending_stage

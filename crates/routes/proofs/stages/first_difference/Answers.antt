@@ -3,7 +3,6 @@ use Rattle.routes.proofs.Turns.{differing_start, differing_next, differing_found
 use Rattle.routes.proofs.Steps.{difference_iff}
 use Rattle.slices.proofs.PartLaws.{length_part}
 use Rattle.slices.proofs.OrderLaws.{equal_iff}
-use Prim.Native.Nat.{◌-◌}
 use mathlib.Core.Path.{sym, ◌∙◌}
 use borrow.Author.Rules.{rules}
 use native.Mathlib.Omega.{arith}

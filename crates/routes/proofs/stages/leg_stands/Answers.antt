@@ -5,7 +5,7 @@ use Rattle.routes.proofs.stages.leg_stands.Goals as goal
 
 pub returns-then-same : goal.returns-then-same
 unfolding leg_stands
-returns-then-same c =    simp (c.pair.ensures, c.of-u.ensures, c.of-t.ensures, sym c.same.ensures ∙ c.if-same.true)
+returns-then-same c = simp (c.pair.ensures, c.of-u.ensures, c.of-t.ensures, sym c.same.ensures ∙ c.if-same.true)
 
 pub returns : goal.returns
 unfolding leg_stands

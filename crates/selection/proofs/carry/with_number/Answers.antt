@@ -1,5 +1,4 @@
 -- Marked or not. Assumes nothing.
-use Rattle.slices.proofs.Cases.{is_false, is_true}
 use Rattle.selection.proofs.MemberLaws.{grown_none, grown_one}
 use Rattle.selection.proofs.carry.with_number.Goals as goal
 

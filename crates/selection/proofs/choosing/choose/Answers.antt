@@ -7,7 +7,7 @@ use borrow.Author.Rules.{rules}
 use Rattle.selection.proofs.choosing.choose.Goals as goal
 
 pub returns-in-Refused : goal.returns-in-Refused
-returns-in-Refused c =    let e = settled_wanted _ _ _ _ _ c.within-judged.ensures c.in-Refused.is c.failure_by-failure.ensures in
+returns-in-Refused c = let e = settled_wanted _ _ _ _ _ c.within-judged.ensures c.in-Refused.is c.failure_by-failure.ensures in
     let no = refused_verdict _ no_more _ c.failure_by-failure.ensures in
     record { settles = e; relies = λ a. absurd (never (sym no ∙ a)); takes = λ a. absurd (never (sym no ∙ a)) }
 
@@ -15,7 +15,7 @@ pub whole-failure-requires : goal.whole-failure-requires
 whole-failure-requires c = c.requires
 
 pub returns-in-Refused-verdict : goal.returns-in-Refused-verdict
-returns-in-Refused-verdict c =    let no = c.in-Refused-verdict.is in
+returns-in-Refused-verdict c = let no = c.in-Refused-verdict.is in
     record {
       settles = settled_log _ _ _ _ _ c.within-judged.ensures c.in-Accepted.is c.whole-failure.ensures;
       relies = λ a. absurd (never (sym no ∙ a));
@@ -23,14 +23,14 @@ returns-in-Refused-verdict c =    let no = c.in-Refused-verdict.is in
     }
 
 pub reliances-relied-requires : goal.reliances-relied-requires
-reliances-relied-requires c =    let r = c.requires in
+reliances-relied-requires c = let r = c.requires in
     (index_few _ _ r, index_within _ _ r)
 
 pub slice_bounds-taken-end : goal.slice_bounds-taken-end
 slice_bounds-taken-end c = let good = c.well_formed.1.1.0 in search rules
 
 pub returns : goal.returns
-returns c =    let r = c.requires in
+returns c = let r = c.requires in
     record {
       settles = settled_log _ _ _ _ _ c.within-judged.ensures c.in-Accepted.is c.whole-failure.ensures;
       relies = λ _. c.reliances-relied.ensures;

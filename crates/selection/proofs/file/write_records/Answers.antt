@@ -1,5 +1,4 @@
 -- The invariant: what is left to be stored gives the answer. Assumes nothing.
-use Prim.Native.Nat.{◌-◌}
 use mathlib.Core.Path.{refl}
 use Rattle.selection.proofs.StoredLaws.{stored_start, stored_next, stored_end}
 use borrow.Author.Rules.{rules}
@@ -10,14 +9,14 @@ pub loop-i-init : goal.loop-i-init
 loop-i-init c = (refl, refl, c.requires, search rules, stored_start _ _ _ _)
 
 pub loop-i-preserved : goal.loop-i-preserved
-loop-i-preserved c =    let inv = c.loop-i.invariant in (
-      search rules,
-      inv.1,
-      inv.2,
-      inv.3,
-      stored_next _ _ _ inv.2 inv.3 _ _ inv.4 (omega (arith, inv.1, c.loop-i-test.true)) c.record_at-rec.ensures c.copy.ensures c.put_after.ensures,
-    )
+loop-i-preserved c = let inv = c.loop-i.invariant in (
+  search rules,
+  inv.1,
+  inv.2,
+  inv.3,
+  stored_next _ _ _ inv.2 inv.3 _ _ inv.4 (omega (arith, inv.1, c.loop-i-test.true)) c.record_at-rec.ensures c.copy.ensures c.put_after.ensures,
+)
 
 pub returns : goal.returns
-returns c =    let inv = c.loop-i.invariant in
+returns c = let inv = c.loop-i.invariant in
     stored_end _ _ _ inv.2 inv.3 _ _ inv.4 (omega (arith, inv.1, c.loop-i-test.false))

@@ -7,8 +7,8 @@ pub returns-then-log-gt-LONGEST_LOG : goal.returns-then-log-gt-LONGEST_LOG
 returns-then-log-gt-LONGEST_LOG c = opening_long _ _ c.if-log-gt-LONGEST_LOG.true c.log_too_long.ensures c.refused_by.ensures
 
 pub returns-in-Refused : goal.returns-in-Refused
-returns-in-Refused c =    opening_file _ _ c.if-log-gt-LONGEST_LOG.false c.check-verdict.ensures c.in-Refused.is c.refused_by-in-Refused.ensures
+returns-in-Refused c = opening_file _ _ c.if-log-gt-LONGEST_LOG.false c.check-verdict.ensures c.in-Refused.is c.refused_by-in-Refused.ensures
 
 pub returns : goal.returns
-returns c =    opening_log _ _ c.if-log-gt-LONGEST_LOG.false c.check-verdict.ensures c.in-Accepted.is
+returns c = opening_log _ _ c.if-log-gt-LONGEST_LOG.false c.check-verdict.ensures c.in-Accepted.is
     (own_count _ c.sources_of-sources.ensures).0 c.index_of.ensures

@@ -1,5 +1,4 @@
 -- The invariant: the table holds of the lines that were looked at. Assumes nothing.
-use Prim.Native.Nat.{◌-◌}
 use Rattle.selection.proofs.MarkLaws.{ends_start, ends_skip, ends_next, ends_end}
 use borrow.Author.Rules.{rules}
 use native.Mathlib.Omega.{arith}
@@ -9,10 +8,10 @@ pub loop-k-init : goal.loop-k-init
 loop-k-init c = (omega arith, ends_start _)
 
 pub loop-k-preserved-then-c-lt-MARKS : goal.loop-k-preserved-then-c-lt-MARKS
-loop-k-preserved-then-c-lt-MARKS c =    (search rules, ends_next _ _ _ c.loop-k.invariant.1 c.if-c-lt-MARKS.true)
+loop-k-preserved-then-c-lt-MARKS c = (search rules, ends_next _ _ _ c.loop-k.invariant.1 c.if-c-lt-MARKS.true)
 
 pub loop-k-preserved : goal.loop-k-preserved
-loop-k-preserved c =    (search rules, ends_skip _ _ _ c.loop-k.invariant.1 c.if-c-lt-MARKS.false)
+loop-k-preserved c = (search rules, ends_skip _ _ _ c.loop-k.invariant.1 c.if-c-lt-MARKS.false)
 
 pub returns : goal.returns
 returns c = ends_end _ _ _ c.loop-k.invariant.1 c.loop-k-test.false

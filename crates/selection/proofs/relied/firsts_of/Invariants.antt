@@ -1,5 +1,5 @@
 -- The invariant: the table holds of the lines that were looked at. Assumes nothing.
-use Prim.Native.Nat.{◌-◌, ◌≤◌}
+use Prim.Native.Nat.{◌≤◌}
 use lib.ListN.{length}
 use Rattle.selection.proofs.MarkLaws.{Firsts}
 use Rattle.selection.proofs.relied.firsts_of.Given as goal

@@ -1,7 +1,6 @@
 -- A law for each way that it ends. Assumes nothing.
 use mathlib.Core.Path.{refl}
 use Rattle.selection.proofs.MarkLaws.{names, names_not, names_none, names_nothing}
-use native.Mathlib.Omega.{arith}
 use Rattle.selection.proofs.relied.named.Goals as goal
 
 pub returns-then-of-k : goal.returns-then-of-k

@@ -1,6 +1,6 @@
 -- The invariant: what the line relies on stands among the lines that are left. Assumes nothing.
 use mathlib.Core.Path.{◌≡◌}
-use Prim.Native.Nat.{◌-◌, ◌≤◌}
+use Prim.Native.Nat.{◌≤◌}
 use lib.ListN.{get_or}
 use Rattle.routes.specs.Sources.{log_source, record_at}
 use Rattle.selection.proofs.RelianceLaws.{Among}
