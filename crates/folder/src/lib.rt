@@ -4,40 +4,49 @@
 // the answer counts no more than the buffer holds, and that the rest is 0.
 #![tactic(auto)]
 
-ghost use Rattle.std.specs.Prelude.{◌≡◌, ◌-◌, ◌≤◌, length, drop, replicate};
-ghost use Rattle.io.specs.Counts.{IsPrefixLen};
+ghost use Rattle.std.specs.Prelude.{◌≡◌, ◌-◌, ◌<◌, ◌≤◌, IfSome, length, take, drop, replicate};
 
-// Reads until the buffer is full or the file ends, and answers how many bytes there are. An error midway leaves none of them: a file that
-// can't be read is never taken for the part that was.
-fn read_open(fd: i32, into: &mut [u8]) -> usize
-    ensures { result ≤ length into.new }
+use std::fs;
+use std::io::Read;
+use std::rt::Files;
+
+// Reads until the buffer is full or the file ends, and answers how many bytes there are: as many as the file has and the buffer holds. An error
+// midway leaves none of them: a file that can't be read is never taken for the part that was.
+fn read_open<F: Read>(file: &mut F, into: &mut [u8]) -> usize
+    ensures counted { result ≤ length into.new }
+    ensures bytes { IfSome (F.remaining file.old)
+        (λ xs. 0 < result → take result into.new ≡ take (length into.old) xs) }
 {
     let mut done: usize = 0;
     while done < into.len() {
-        let got = libc::read(fd, &mut into[done..]);
-        if got < 0 {
-            return 0;
+        match file.read(&mut into[done..]) {
+            Ok(0) => return done,
+            Ok(more) => done += more,
+            Err(_) => return 0,
         }
-        let more = io::count(got, &into[done..]);
-        if more == 0 {
-            return done;
-        }
-        done += more;
     }
     done
 }
 
-// The bytes of the file, as many as the buffer holds, and zeros past them; none where it can't be opened or can't be read.
-pub fn read(path: &[u8], into: &mut [u8]) -> usize
-    ensures { IsPrefixLen result into.new × (drop result into.new ≡ replicate (length into.old - result) 0) }
+// The same of the file at a path; none where it can't be opened. No file can be opened at a path that is no text in UTF-8.
+fn read_at<R: Files>(rt: &R, path: &[u8], into: &mut [u8]) -> usize
+    ensures { result ≤ length into.new }
 {
-    let fd = os::open_read(path);
-    if fd < 0 {
-        slices::clear(into);
+    let Ok(path) = str::from_utf8(path) else {
         return 0;
-    }
-    let n = read_open(fd, &mut *into);
-    libc::close(fd);
+    };
+    let Ok(mut file) = fs::open(rt, path) else {
+        return 0;
+    };
+    read_open(&mut file, into)
+}
+
+// The bytes of the file, as many as the buffer holds, and zeros past them; none where it can't be opened or can't be read.
+pub fn read<R: Files>(rt: &R, path: &[u8], into: &mut [u8]) -> usize
+    ensures counted { result ≤ length into.new }
+    ensures cleared { drop result into.new ≡ replicate (length into.old - result) 0 }
+{
+    let n = read_at(rt, path, &mut *into);
     slices::clear_from(into, n);
     n
 }

@@ -11,15 +11,15 @@
 
 ghost use Rattle.std.specs.Prelude.{◌≤◌, length};
 
-use libc::STDOUT_FILENO;
+use std::io::{BufWriter, Read, Write};
+use std::{fs, io};
 
-fn print(text: &[u8]) {
-    io::write_all(STDOUT_FILENO, text);
+fn print(to: &mut impl Write, text: &[u8]) -> io::Result<()> {
+    to.write_all(text)
 }
 
-fn print_number(n: u64) {
-    print(b"\t");
-    io::print_decimal(STDOUT_FILENO, n);
+fn print_number(to: &mut impl Write, n: u64) -> io::Result<()> {
+    write!(to, "\t{n}")
 }
 
 // A length, or that of the space where it is longer.
@@ -54,43 +54,43 @@ fn sum_of(bytes: &[u8]) -> u64 {
 // ---- one folder
 
 // The first n bytes.
-fn print_first(bytes: &[u8], n: usize) {
+fn print_first(to: &mut impl Write, bytes: &[u8], n: usize) -> io::Result<()> {
     let k = within(n, bytes);
-    print(&bytes[0..k]);
+    print(to, &bytes[0..k])
 }
 
 // The first n bytes, or how many they are and their check sum.
-fn print_file(bytes: &[u8], n: usize) {
+fn print_file(to: &mut impl Write, bytes: &[u8], n: usize) -> io::Result<()> {
     if n <= 2000 {
-        print_first(bytes, n);
-        return;
+        return print_first(to, bytes, n);
     }
     let k = within(n, bytes);
-    print(b"bytes");
-    print_number(k as u64);
-    print_number(sum_of(&bytes[0..k]));
-    print(b"\n");
+    print(to, b"bytes")?;
+    print_number(to, k as u64)?;
+    print_number(to, sum_of(&bytes[0..k]))?;
+    print(to, b"\n")
 }
 
 fn print_answers<'a>(
+    to: &mut impl Write,
     number: u64,
     frozen: &'a [u8],
     log: &'a [u8],
     want: &[u8],
     lines: &mut [u8],
     file: &mut [u8],
-) {
-    print(b"folder");
-    print_number(number);
-    print(b"\n");
+) -> io::Result<()> {
+    print(to, b"folder")?;
+    print_number(to, number)?;
+    print(to, b"\n")?;
     let picked = answers::pick_answer(frozen, log, want, lines);
-    print_first(lines, picked.length);
+    print_first(to, lines, picked.length)?;
     let made = answers::newfile_answer(frozen, log, want, file);
-    print_file(file, made.length);
+    print_file(to, file, made.length)?;
     let checked = answers::check_answer(frozen, log, lines);
-    print_first(lines, checked.length);
+    print_first(to, lines, checked.length)?;
     let explained = answers::why_answer(frozen, log, want, lines);
-    print_first(lines, explained.length);
+    print_first(to, lines, explained.length)
 }
 
 // The length that is stored at this place.
@@ -102,65 +102,87 @@ fn length_at(lengths: &[u8], at: usize) -> usize {
     a * 16777216 + b * 65536 + c * 256 + d
 }
 
-// Reads the next n bytes, as long as the space has room, and answers how many there were.
-fn read_part(fd: i32, space: &mut [u8], n: usize) -> usize
+// Reads the next n bytes, as long as the space has room, and answers how many there were. A read that fails ends them as the file's end does.
+fn read_part(stored: &mut impl Read, space: &mut [u8], n: usize) -> usize
     ensures { result ≤ length space.new }
 {
-    let k = within(n, space);
-    let got = io::read_full(fd, &mut space[0..k]);
-    within(got, space)
+    let end = within(n, space);
+    let mut done: usize = 0;
+    while done < end {
+        match stored.read(&mut space[done..end]) {
+            Ok(0) => return done,
+            Ok(more) => done += more,
+            Err(_) => return done,
+        }
+    }
+    done
 }
 
 // Reads a folder and prints its answers; false where there is none.
 fn print_folder(
-    fd: i32,
+    to: &mut impl Write,
+    stored: &mut impl Read,
     number: u64,
     frozen: &mut [u8],
     log: &mut [u8],
     want: &mut [u8],
     lines: &mut [u8],
     file: &mut [u8],
-) -> bool {
+) -> io::Result<bool> {
     let mut lengths = [0u8; 12];
-    if io::read_full(fd, &mut lengths) < 12 {
-        return false;
+    if read_part(stored, &mut lengths, 12) < 12 {
+        return Ok(false);
     }
-    let f = read_part(fd, &mut *frozen, length_at(&lengths, 0));
-    let l = read_part(fd, &mut *log, length_at(&lengths, 4));
-    let w = read_part(fd, &mut *want, length_at(&lengths, 8));
-    print_answers(number, &frozen[0..f], &log[0..l], &want[0..w], lines, file);
-    true
+    let f = read_part(stored, &mut *frozen, length_at(&lengths, 0));
+    let l = read_part(stored, &mut *log, length_at(&lengths, 4));
+    let w = read_part(stored, &mut *want, length_at(&lengths, 8));
+    print_answers(
+        to,
+        number,
+        &frozen[0..f],
+        &log[0..l],
+        &want[0..w],
+        lines,
+        file,
+    )?;
+    Ok(true)
 }
 
 fn print_folders(
-    fd: i32,
+    to: &mut impl Write,
+    stored: &mut impl Read,
     frozen: &mut [u8],
     log: &mut [u8],
     want: &mut [u8],
     lines: &mut [u8],
     file: &mut [u8],
-) {
+) -> io::Result<()> {
     let mut number: u64 = 1;
     while number < 4294967296 {
-        if !print_folder(fd, number, frozen, log, want, lines, file) {
-            return;
+        if !print_folder(to, stored, number, frozen, log, want, lines, file)? {
+            break;
         }
         number += 1;
     }
+    Ok(())
 }
 
-fn main() {
-    let path = b"folders.bin";
-    let fd = os::open_read(path);
-    if fd < 0 {
-        os::fail(path);
-        return;
-    }
+fn main(rt: HostRuntime) -> io::Result<()> {
+    let mut stored = fs::open(&rt, "folders.bin")?;
     let mut frozen = [0u8; answers::FROZEN_READ];
     let mut log = [0u8; answers::LOG_READ];
     let mut want = [0u8; answers::WANT_READ];
     let mut lines = [0u8; answers::LONGEST_WHY];
     let mut file = [0u8; answers::LONGEST_FILE];
-    print_folders(fd, &mut frozen, &mut log, &mut want, &mut lines, &mut file);
-    libc::close(fd);
+    let mut to = BufWriter::new(rt.alloc(), io::writer(&rt))?;
+    print_folders(
+        &mut to,
+        &mut stored,
+        &mut frozen,
+        &mut log,
+        &mut want,
+        &mut lines,
+        &mut file,
+    )?;
+    to.flush()
 }

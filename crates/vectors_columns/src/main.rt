@@ -5,48 +5,45 @@
 #![tactic(auto)]
 
 use columns::Kind;
-use libc::STDOUT_FILENO;
+use std::io;
+use std::io::{BufWriter, Write};
 
-fn print_kind(rec: &[u8]) -> bool {
+fn print_kind(to: &mut impl Write, rec: &[u8]) -> io::Result<()> {
     let kind = columns::kind_of(rec);
     match kind {
-        Kind::Primary => io::write_all(STDOUT_FILENO, b"primary\t"),
-        Kind::Continuation => io::write_all(STDOUT_FILENO, b"continuation\t"),
+        Kind::Primary => to.write_all(b"primary\t"),
+        Kind::Continuation => to.write_all(b"continuation\t"),
     }
 }
 
-fn print_answer(rec: &[u8]) {
-    print_kind(rec);
+fn print_answer(to: &mut impl Write, rec: &[u8]) -> io::Result<()> {
+    print_kind(to, rec)?;
     let field = columns::first_bad(rec);
-    io::print_decimal(STDOUT_FILENO, field as u64);
-    io::write_all(STDOUT_FILENO, b"\t");
     let byte = columns::bad_byte(rec);
-    io::print_decimal(STDOUT_FILENO, byte as u64);
-    io::write_all(STDOUT_FILENO, b"\n");
+    writeln!(to, "{field}\t{byte}")
 }
 
 // One answer for each line; a tail without a line feed is a line too.
-fn print_answers(text: &[u8]) {
+fn print_answers(to: &mut impl Write, text: &[u8]) -> io::Result<()> {
     let mut from = 0;
     while from < text.len() {
         let end = slices::line_feed(text, from);
-        print_answer(&text[from..end]);
+        print_answer(to, &text[from..end])?;
         if end == text.len() {
-            return;
+            break;
         }
         from = end + 1;
     }
+    Ok(())
 }
 
-fn main() {
-    let path = b"records.txt";
-    let fd = os::open_read(path);
-    if fd < 0 {
-        os::fail(path);
-        return;
+fn main(rt: HostRuntime) -> io::Result<()> {
+    let mut space = [0u8; 65536];
+    let n = folder::read(&rt, b"records.txt", &mut space);
+    if n == 0 {
+        return Err(io::Error::new(io::ErrorKind::NotFound, "records.txt"));
     }
-    let mut space = io::large_buffer();
-    let n = io::read_full(fd, &mut space);
-    libc::close(fd);
-    print_answers(&space[..n]);
+    let mut to = BufWriter::new(rt.alloc(), io::writer(&rt))?;
+    print_answers(&mut to, &space[..n])?;
+    to.flush()
 }

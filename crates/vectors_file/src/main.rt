@@ -9,40 +9,42 @@
 // The files and what is to be printed are made by the program in reference/.
 #![tactic(auto)]
 
-ghost use Rattle.std.specs.Prelude.{◌≤◌};
+ghost use Rattle.std.specs.Prelude.{◌≤◌, length, IfOk};
 
-use libc::STDOUT_FILENO;
 use refusals::Verdict;
+use std::io;
+use std::io::{BufWriter, Write};
+use std::rt::Files;
 
-fn print(text: &[u8]) {
-    io::write_all(STDOUT_FILENO, text);
+fn print(to: &mut impl Write, text: &[u8]) -> io::Result<()> {
+    to.write_all(text)
 }
 
-fn print_number(n: usize) {
-    io::print_decimal(STDOUT_FILENO, n as u64);
+fn print_number(to: &mut impl Write, n: usize) -> io::Result<()> {
+    write!(to, "{n}")
 }
 
-fn print_verdict(v: Verdict) {
+fn print_verdict(to: &mut impl Write, v: Verdict) -> io::Result<()> {
     match v {
-        Verdict::Accepted => print(b"yes\n"),
+        Verdict::Accepted => print(to, b"yes\n"),
         Verdict::Refused(r) => {
-            print(b"no\t");
-            print_number(r.number as usize);
-            print(b"\t");
-            print_number(r.place);
-            print(b"\t");
-            print_number(r.column);
-            print(b"\n");
+            print(to, b"no\t")?;
+            print_number(to, r.number as usize)?;
+            print(to, b"\t")?;
+            print_number(to, r.place)?;
+            print(to, b"\t")?;
+            print_number(to, r.column)?;
+            print(to, b"\n")
         }
     }
 }
 
 // The verdict on the first n bytes.
-fn print_check(space: &[u8], n: usize) {
+fn print_check(to: &mut impl Write, space: &[u8], n: usize) -> io::Result<()> {
     if n < space.len() {
-        print_verdict(routes::check(&space[0..n]));
+        print_verdict(to, routes::check(&space[0..n]))
     } else {
-        print_verdict(routes::check(space));
+        print_verdict(to, routes::check(space))
     }
 }
 
@@ -98,7 +100,12 @@ fn carry_out(
     0
 }
 
-fn print_files(bases: &[u8], instructions: &[u8], space: &mut [u8]) {
+fn print_files(
+    to: &mut impl Write,
+    bases: &[u8],
+    instructions: &[u8],
+    space: &mut [u8],
+) -> io::Result<()> {
     let mut n = 0;
     let mut whole = 0;
     let mut at = 0;
@@ -107,36 +114,36 @@ fn print_files(bases: &[u8], instructions: &[u8], space: &mut [u8]) {
         let x = slices::byte_after(instructions, at, 1);
         let y = slices::byte_after(instructions, at, 2);
         if op == 0 {
-            print_check(space, n);
+            print_check(to, space, n)?;
             whole = n;
         }
         n = carry_out(bases, space, n, whole, op, x, y);
         if instructions.len() - at <= 3 {
-            return;
+            break;
         }
         at += 3;
     }
+    Ok(())
 }
 
-fn main() {
-    let path = b"bases.bin";
-    let fd = os::open_read(path);
-    if fd < 0 {
-        os::fail(path);
-        return;
+// How many bytes a stored file has. One that can't be read counts as having none, and is an error.
+fn stored(rt: &impl Files, name: &str, into: &mut [u8]) -> io::Result<usize>
+    ensures { IfOk result (λ n. n ≤ length into.new) }
+{
+    let n = folder::read(rt, name.as_bytes(), into);
+    if n == 0 {
+        return Err(io::Error::new(io::ErrorKind::NotFound, name));
     }
-    let mut bases = io::buffer();
-    let b = io::read_full(fd, &mut bases);
-    libc::close(fd);
-    let path = b"files.bin";
-    let fd = os::open_read(path);
-    if fd < 0 {
-        os::fail(path);
-        return;
-    }
-    let mut instructions = io::large_buffer();
-    let n = io::read_full(fd, &mut instructions);
-    libc::close(fd);
-    let mut space = io::large_buffer();
-    print_files(&bases[..b], &instructions[..n], &mut space);
+    Ok(n)
+}
+
+fn main(rt: HostRuntime) -> io::Result<()> {
+    let mut bases = [0u8; 4096];
+    let b = stored(&rt, "bases.bin", &mut bases)?;
+    let mut instructions = [0u8; 65536];
+    let n = stored(&rt, "files.bin", &mut instructions)?;
+    let mut space = [0u8; 65536];
+    let mut to = BufWriter::new(rt.alloc(), io::writer(&rt))?;
+    print_files(&mut to, &bases[..b], &instructions[..n], &mut space)?;
+    to.flush()
 }

@@ -15,87 +15,87 @@
 ghost use Rattle.std.specs.Prelude.{◌≤◌, ◌<◌};
 
 use corrections::Index;
-use libc::STDOUT_FILENO;
 use refusals::Verdict;
+use std::io;
+use std::io::{BufWriter, Write};
 use wanted::Wanted;
 
-fn print(text: &[u8]) {
-    io::write_all(STDOUT_FILENO, text);
+fn print(to: &mut impl Write, text: &[u8]) -> io::Result<()> {
+    to.write_all(text)
 }
 
-fn print_number(n: usize) {
-    print(b"\t");
-    io::print_decimal(STDOUT_FILENO, n as u64);
+fn print_number(to: &mut impl Write, n: usize) -> io::Result<()> {
+    write!(to, "\t{n}")
 }
 
 // The first n of the columns of an index, line by line.
-fn print_lines(index: Index, n: usize) {
+fn print_lines(to: &mut impl Write, index: Index, n: usize) -> io::Result<()> {
     let mut i: usize = 0;
     while i < 444 {
         if n <= i {
-            return;
+            break;
         }
         let letter = index.kind[i];
         let at = index.at[i];
         let correction = index.correction[i];
-        print_number(letter as usize);
-        print_number(at as usize);
-        print_number(correction as usize);
+        print_number(to, letter as usize)?;
+        print_number(to, at as usize)?;
+        print_number(to, correction as usize)?;
         i += 1;
     }
+    Ok(())
 }
 
-fn print_index(index: Index) {
+fn print_index(to: &mut impl Write, index: Index) -> io::Result<()> {
     let verdict = index.verdict;
     let count = index.count;
     match verdict {
         Verdict::Accepted => {
-            print(b"yes");
-            print_number(index.corrections);
-            print_number(count);
-            print_lines(index, count);
+            print(to, b"yes")?;
+            print_number(to, index.corrections)?;
+            print_number(to, count)?;
+            print_lines(to, index, count)?;
         }
         Verdict::Refused(r) => {
-            print(b"no");
-            print_number(r.number as usize);
-            print_number(r.place);
-            print_number(r.column);
+            print(to, b"no")?;
+            print_number(to, r.number as usize)?;
+            print_number(to, r.place)?;
+            print_number(to, r.column)?;
         }
     }
-    print(b"\n");
+    print(to, b"\n")
 }
 
-fn print_wanted(wanted: Wanted) {
-    print(b"want");
-    print_number(wanted.count);
+fn print_wanted(to: &mut impl Write, wanted: Wanted) -> io::Result<()> {
+    print(to, b"want")?;
+    print_number(to, wanted.count)?;
     let n = wanted.count;
     let mut i: usize = 0;
     while i < 201 {
         if n <= i {
-            print(b"\n");
-            return;
+            break;
         }
         let number = wanted.at[i];
-        print_number(number as usize);
+        print_number(to, number as usize)?;
         i += 1;
     }
-    print(b"\n");
+    print(to, b"\n")
 }
 
 // The first n bytes as a log beside so many frozen records, or as a list of wanted numbers.
-fn print_log(space: &[u8], n: usize, frozen: usize) {
+fn print_log(to: &mut impl Write, space: &[u8], n: usize, frozen: usize) -> io::Result<()> {
     if n < space.len() {
-        print_index(corrections::index_of(&space[0..n], frozen));
+        print_index(to, corrections::index_of(&space[0..n], frozen))
     } else {
-        print_index(corrections::index_of(space, frozen));
+        print_index(to, corrections::index_of(space, frozen))
     }
 }
 
-fn print_list(space: &[u8], n: usize) {
+fn print_list(to: &mut impl Write, space: &[u8], n: usize) -> io::Result<()> {
     if n < space.len() {
-        print_wanted(wanted::numbers(&space[0..n]));
+        print_wanted(to, wanted::numbers(&space[0..n]))
     } else {
-        print_wanted(wanted::numbers(space));
+        print_wanted(to, wanted::numbers(space))
     }
 }
 
@@ -193,7 +193,7 @@ fn frozen_after(frozen: usize, op: u8, x: u8, y: u8) -> usize {
     frozen
 }
 
-fn print_texts(instructions: &[u8], space: &mut [u8]) {
+fn print_texts(to: &mut impl Write, instructions: &[u8], space: &mut [u8]) -> io::Result<()> {
     let mut n = 0;
     let mut whole = 0;
     let mut frozen = 0;
@@ -203,32 +203,31 @@ fn print_texts(instructions: &[u8], space: &mut [u8]) {
         let x = slices::byte_after(instructions, at, 1);
         let y = slices::byte_after(instructions, at, 2);
         if op == 0 {
-            print_log(space, n, frozen);
+            print_log(to, space, n, frozen)?;
             whole = n;
         }
         if op == 6 {
-            print_list(space, n);
+            print_list(to, space, n)?;
             whole = n;
         }
         n = carry_out(space, n, whole, op, x, y);
         frozen = frozen_after(frozen, op, x, y);
         if instructions.len() - at <= 3 {
-            return;
+            break;
         }
         at += 3;
     }
+    Ok(())
 }
 
-fn main() {
-    let path = b"texts.bin";
-    let fd = os::open_read(path);
-    if fd < 0 {
-        os::fail(path);
-        return;
+fn main(rt: HostRuntime) -> io::Result<()> {
+    let mut instructions = [0u8; 65536];
+    let n = folder::read(&rt, b"texts.bin", &mut instructions);
+    if n == 0 {
+        return Err(io::Error::new(io::ErrorKind::NotFound, "texts.bin"));
     }
-    let mut instructions = io::large_buffer();
-    let n = io::read_full(fd, &mut instructions);
-    libc::close(fd);
-    let mut space = io::large_buffer();
-    print_texts(&instructions[..n], &mut space);
+    let mut space = [0u8; 65536];
+    let mut to = BufWriter::new(rt.alloc(), io::writer(&rt))?;
+    print_texts(&mut to, &instructions[..n], &mut space)?;
+    to.flush()
 }

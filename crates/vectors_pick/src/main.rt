@@ -31,34 +31,35 @@
 // The cases and what is to be printed are made by the program in reference/.
 #![tactic(auto)]
 
-ghost use Rattle.std.specs.Prelude.{◌≤◌, ◌<◌, ◌≡◌, length};
+ghost use Rattle.std.specs.Prelude.{◌≤◌, ◌<◌, ◌≡◌, length, IfOk};
 
-use libc::STDOUT_FILENO;
 use refusals::{Refusal, Verdict};
 use routes::Sources;
 use selection::{Explained, Failure, Picked};
+use std::io;
+use std::io::{BufWriter, Write};
+use std::rt::Files;
 
-fn print(text: &[u8]) {
-    io::write_all(STDOUT_FILENO, text);
+fn print(to: &mut impl Write, text: &[u8]) -> io::Result<()> {
+    to.write_all(text)
 }
 
-fn print_number(n: u64) {
-    print(b"\t");
-    io::print_decimal(STDOUT_FILENO, n);
+fn print_number(to: &mut impl Write, n: u64) -> io::Result<()> {
+    write!(to, "\t{n}")
 }
 
-fn print_refusal(r: Refusal) {
-    print_number(r.number as u64);
-    print_number(r.place as u64);
-    print_number(r.column as u64);
+fn print_refusal(to: &mut impl Write, r: Refusal) -> io::Result<()> {
+    print_number(to, r.number as u64)?;
+    print_number(to, r.place as u64)?;
+    print_number(to, r.column as u64)
 }
 
-fn print_verdict(v: Verdict) {
+fn print_verdict(to: &mut impl Write, v: Verdict) -> io::Result<()> {
     match v {
-        Verdict::Accepted => print(b"\tyes"),
+        Verdict::Accepted => print(to, b"\tyes"),
         Verdict::Refused(r) => {
-            print(b"\tno");
-            print_refusal(r);
+            print(to, b"\tno")?;
+            print_refusal(to, r)
         }
     }
 }
@@ -138,92 +139,95 @@ fn explained_sum(explained: Explained) -> u64 {
 // ---- one case
 
 // The first n of the corrections taken.
-fn print_taken(picked: Picked, n: usize) {
+fn print_taken(to: &mut impl Write, picked: Picked, n: usize) -> io::Result<()> {
     let mut i: usize = 0;
     while i < 200 {
         if n <= i {
-            return;
+            break;
         }
         let number = picked.taken[i];
-        print_number(number as u64);
+        print_number(to, number as u64)?;
         i += 1;
     }
+    Ok(())
 }
 
 // The first n sources.
-fn print_sources(records: Sources, n: usize) {
+fn print_sources(to: &mut impl Write, records: Sources, n: usize) -> io::Result<()> {
     let mut i: usize = 0;
     while i < 480 {
         if n <= i {
-            return;
+            break;
         }
         let source = records.at[i];
-        print_number(source as u64);
+        print_number(to, source as u64)?;
         i += 1;
     }
+    Ok(())
 }
 
-fn print_picked(picked: Picked) {
+fn print_picked(to: &mut impl Write, picked: Picked) -> io::Result<()> {
     let verdict = picked.verdict;
-    print_verdict(verdict);
+    print_verdict(to, verdict)?;
     match verdict {
         Verdict::Accepted => {
             let records = picked.records;
-            print_number(picked.count as u64);
-            print_number(records.count as u64);
-            print_taken(picked, picked.count);
-            print_sources(records, records.count);
+            print_number(to, picked.count as u64)?;
+            print_number(to, records.count as u64)?;
+            print_taken(to, picked, picked.count)?;
+            print_sources(to, records, records.count)
         }
-        Verdict::Refused(_) => {}
+        Verdict::Refused(_) => Ok(()),
     }
 }
 
 // What is wrong with a log.
-fn print_failure(failure: Failure) {
+fn print_failure(to: &mut impl Write, failure: Failure) -> io::Result<()> {
     let fault = failure.fault;
     let inner = fault.inner;
     let route = fault.route;
-    print_number(failure.line as u64);
-    print_number(fault.at as u64);
-    print_refusal(inner);
-    print_number(route.count as u64);
-    print_sources(route, route.count);
+    print_number(to, failure.line as u64)?;
+    print_number(to, fault.at as u64)?;
+    print_refusal(to, inner)?;
+    print_number(to, route.count as u64)?;
+    print_sources(to, route, route.count)
 }
 
 // The first n of the reasons.
-fn print_reasons(explained: Explained, n: usize) {
+fn print_reasons(to: &mut impl Write, explained: Explained, n: usize) -> io::Result<()> {
     let mut i: usize = 0;
     while i < 200 {
         if n <= i {
-            return;
+            break;
         }
         let number = explained.taken[i];
         let relying = explained.relying[i];
         let source = explained.source[i];
-        print_number(number as u64);
-        print_number(relying as u64);
-        print_number(source as u64);
+        print_number(to, number as u64)?;
+        print_number(to, relying as u64)?;
+        print_number(to, source as u64)?;
         i += 1;
     }
+    Ok(())
 }
 
-fn print_explained(explained: Explained) {
+fn print_explained(to: &mut impl Write, explained: Explained) -> io::Result<()> {
     let failure = explained.failure;
     let verdict = failure.verdict;
-    print_verdict(verdict);
+    print_verdict(to, verdict)?;
     match verdict {
         Verdict::Accepted => {
-            print_number(explained.count as u64);
-            print_reasons(explained, explained.count);
+            print_number(to, explained.count as u64)?;
+            print_reasons(to, explained, explained.count)
         }
-        Verdict::Refused(_) => {}
+        Verdict::Refused(_) => Ok(()),
     }
 }
 
 // The length and the check sum of a line.
-fn print_line(line: &[u8]) {
-    print_number(line.len() as u64);
-    print_number(sum_of(line));
+fn print_line(to: &mut impl Write, line: &[u8]) -> io::Result<()> {
+    print_number(to, line.len() as u64)?;
+    print_number(to, sum_of(line))
 }
 
 // The line behind the last of so many.
@@ -243,19 +247,25 @@ fn refused(picked: Picked) -> Picked {
     }
 }
 
-fn print_lines<'a>(frozen: &'a [u8], log: &'a [u8], wanted: &[u32], picked: Picked) {
+fn print_lines<'a>(
+    to: &mut impl Write,
+    frozen: &'a [u8],
+    log: &'a [u8],
+    wanted: &[u32],
+    picked: Picked,
+) -> io::Result<()> {
     let records = picked.records;
     let last = records.count;
     let middle = last / 2 + last % 2;
-    print_line(selection::line_of(frozen, log, picked, 0));
-    print_line(selection::line_of(frozen, log, picked, 1));
-    print_line(selection::line_of(frozen, log, picked, middle));
-    print_line(selection::line_of(frozen, log, picked, last));
-    print_line(selection::line_of(frozen, log, picked, behind(last)));
-    print_line(selection::line_of(frozen, log, picked, usize::MAX));
-    print_line(selection::line_of(frozen, log, refused(picked), 1));
-    print_line(selection::line(frozen, log, wanted, middle));
-    print_line(selection::line(frozen, log, wanted, behind(last)));
+    print_line(to, selection::line_of(frozen, log, picked, 0))?;
+    print_line(to, selection::line_of(frozen, log, picked, 1))?;
+    print_line(to, selection::line_of(frozen, log, picked, middle))?;
+    print_line(to, selection::line_of(frozen, log, picked, last))?;
+    print_line(to, selection::line_of(frozen, log, picked, behind(last)))?;
+    print_line(to, selection::line_of(frozen, log, picked, usize::MAX))?;
+    print_line(to, selection::line_of(frozen, log, refused(picked), 1))?;
+    print_line(to, selection::line(frozen, log, wanted, middle))?;
+    print_line(to, selection::line(frozen, log, wanted, behind(last)))
 }
 
 // Makes every byte 255.
@@ -267,33 +277,40 @@ fn fill(out: &mut [u8]) {
     }
 }
 
-fn print_case<'a>(number: usize, frozen: &'a [u8], log: &'a [u8], wanted: &[u32], out: &mut [u8]) {
-    print(b"case");
-    print_number(number as u64);
-    print_verdict(selection::check_log(frozen, log));
-    print(b"\nfails");
+fn print_case<'a>(
+    to: &mut impl Write,
+    number: usize,
+    frozen: &'a [u8],
+    log: &'a [u8],
+    wanted: &[u32],
+    out: &mut [u8],
+) -> io::Result<()> {
+    print(to, b"case")?;
+    print_number(to, number as u64)?;
+    print_verdict(to, selection::check_log(frozen, log))?;
+    print(to, b"\nfails")?;
     let failure = selection::failing(frozen, log);
-    print_failure(failure);
-    print(b"\npick");
+    print_failure(to, failure)?;
+    print(to, b"\npick")?;
     let picked = selection::pick(frozen, log, wanted);
-    print_picked(picked);
-    print(b"\nwhy");
+    print_picked(to, picked)?;
+    print(to, b"\nwhy")?;
     let explained = selection::reasons(frozen, log, wanted);
-    print_explained(explained);
-    print(b"\nfile");
+    print_explained(to, explained)?;
+    print(to, b"\nfile")?;
     fill(out);
     let made = selection::new_file(frozen, log, wanted, out);
     let verdict = made.verdict;
-    print_verdict(verdict);
-    print(b"\nsums");
-    print_number(answer_sum(picked));
-    print_number(answer_sum(made));
-    print_number(sum_of(out));
-    print_number(failure_sum(failure));
-    print_number(explained_sum(explained));
-    print(b"\nlines");
-    print_lines(frozen, log, wanted, picked);
-    print(b"\n");
+    print_verdict(to, verdict)?;
+    print(to, b"\nsums")?;
+    print_number(to, answer_sum(picked))?;
+    print_number(to, answer_sum(made))?;
+    print_number(to, sum_of(out))?;
+    print_number(to, failure_sum(failure))?;
+    print_number(to, explained_sum(explained))?;
+    print(to, b"\nlines")?;
+    print_lines(to, frozen, log, wanted, picked)?;
+    print(to, b"\n")
 }
 
 // A length, or that of the space where it is longer.
@@ -323,23 +340,25 @@ struct Filled {
 
 // The case that fills so much of these spaces.
 fn print_filled<'a>(
+    to: &mut impl Write,
     frozen: &'a [u8],
     log: &'a [u8],
     wanted: &[u32],
     out: &mut [u8],
     filled: Filled,
-) {
+) -> io::Result<()> {
     let f = within(filled.frozen, frozen);
     let l = within(filled.log, log);
     let w = numbers_within(filled.wanted, wanted);
     let o = within(filled.out, out);
     print_case(
+        to,
         filled.number,
         &frozen[0..f],
         &log[0..l],
         &wanted[0..w],
         &mut out[0..o],
-    );
+    )
 }
 
 // ---- instructions
@@ -511,6 +530,7 @@ fn begun(filled: Filled) -> Filled {
 
 // Carries out the instruction at this place.
 fn carry_out(
+    to: &mut impl Write,
     instructions: &[u8],
     at: usize,
     records: &[u8],
@@ -519,15 +539,15 @@ fn carry_out(
     wanted: &mut [u32],
     out: &mut [u8],
     filled: Filled,
-) -> Filled {
+) -> io::Result<Filled> {
     let op = slices::byte_at(instructions, at);
     let x = slices::byte_after(instructions, at, 1);
     let y = slices::byte_after(instructions, at, 2);
     if op == 0 {
-        print_filled(frozen, log, wanted, out, filled);
-        return begun(filled);
+        print_filled(to, frozen, log, wanted, out, filled)?;
+        return Ok(begun(filled));
     }
-    Filled {
+    Ok(Filled {
         frozen: frozen_after(
             records,
             frozen,
@@ -543,17 +563,18 @@ fn carry_out(
         wanted: wanted_after(wanted, filled.wanted, op, x, y),
         out: room_after(filled.out, op, x, y),
         number: filled.number,
-    }
+    })
 }
 
 fn print_cases(
+    to: &mut impl Write,
     instructions: &[u8],
     records: &[u8],
     frozen: &mut [u8],
     log: &mut [u8],
     wanted: &mut [u32],
     out: &mut [u8],
-) {
+) -> io::Result<()> {
     let mut filled = Filled {
         frozen: 0,
         frozen_before: 0,
@@ -565,12 +586,23 @@ fn print_cases(
     };
     let mut at = 0;
     while at < instructions.len() {
-        filled = carry_out(instructions, at, records, frozen, log, wanted, out, filled);
+        filled = carry_out(
+            to,
+            instructions,
+            at,
+            records,
+            frozen,
+            log,
+            wanted,
+            out,
+            filled,
+        )?;
         if instructions.len() - at <= 3 {
-            return;
+            break;
         }
         at += 3;
     }
+    Ok(())
 }
 
 // Zeros for a stored file.
@@ -580,35 +612,35 @@ fn stored_space() -> [u8; 200000]
     [0; 200000]
 }
 
-fn main() {
-    let path = b"records.bin";
-    let fd = os::open_read(path);
-    if fd < 0 {
-        os::fail(path);
-        return;
+// How many bytes a stored file has. One that can't be read counts as having none, and is an error.
+fn stored(rt: &impl Files, name: &str, into: &mut [u8]) -> io::Result<usize>
+    ensures { IfOk result (λ n. n ≤ length into.new) }
+{
+    let n = folder::read(rt, name.as_bytes(), into);
+    if n == 0 {
+        return Err(io::Error::new(io::ErrorKind::NotFound, name));
     }
+    Ok(n)
+}
+
+fn main(rt: HostRuntime) -> io::Result<()> {
     let mut records = stored_space();
-    let r = io::read_full(fd, &mut records);
-    libc::close(fd);
-    let path = b"cases.bin";
-    let fd = os::open_read(path);
-    if fd < 0 {
-        os::fail(path);
-        return;
-    }
+    let r = stored(&rt, "records.bin", &mut records)?;
     let mut instructions = stored_space();
-    let n = io::read_full(fd, &mut instructions);
-    libc::close(fd);
-    let mut frozen = io::large_buffer();
-    let mut log = io::large_buffer();
+    let n = stored(&rt, "cases.bin", &mut instructions)?;
+    let mut frozen = [0u8; 65536];
+    let mut log = [0u8; 65536];
     let mut wanted = [0u32; 1000];
-    let mut out = io::large_buffer();
+    let mut out = [0u8; 65536];
+    let mut to = BufWriter::new(rt.alloc(), io::writer(&rt))?;
     print_cases(
+        &mut to,
         &instructions[..n],
         &records[..r],
         &mut frozen,
         &mut log,
         &mut wanted,
         &mut out,
-    );
+    )?;
+    to.flush()
 }

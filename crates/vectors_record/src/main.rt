@@ -21,29 +21,30 @@ use fields::units::{
     ThousandthsOfMile, WholeDegrees,
 };
 use leg::terminator::Terminator;
-use libc::STDOUT_FILENO;
 use parts::Parts;
 use refusals::Verdict;
+use std::io;
+use std::io::{BufWriter, Write};
 
-fn print(text: &[u8]) {
-    io::write_all(STDOUT_FILENO, text);
+fn print(to: &mut impl Write, text: &[u8]) -> io::Result<()> {
+    to.write_all(text)
 }
 
-fn print_number(n: usize) {
-    io::print_decimal(STDOUT_FILENO, n as u64);
+fn print_number(to: &mut impl Write, n: usize) -> io::Result<()> {
+    write!(to, "{n}")
 }
 
-fn print_verdict(v: Verdict) {
+fn print_verdict(to: &mut impl Write, v: Verdict) -> io::Result<()> {
     match v {
-        Verdict::Accepted => print(b"yes\n"),
+        Verdict::Accepted => print(to, b"yes\n"),
         Verdict::Refused(r) => {
-            print(b"no\t");
-            print_number(r.number as usize);
-            print(b"\t");
-            print_number(r.place);
-            print(b"\t");
-            print_number(r.column);
-            print(b"\n");
+            print(to, b"no\t")?;
+            print_number(to, r.number as usize)?;
+            print(to, b"\t")?;
+            print_number(to, r.place)?;
+            print(to, b"\t")?;
+            print_number(to, r.column)?;
+            print(to, b"\n")
         }
     }
 }
@@ -62,118 +63,118 @@ fn case_end(set: &[u8], at: usize) -> usize
 }
 
 // A number that may be absent: its digits behind a tab, or a minus.
-fn print_absent() {
-    print(b"\t-");
+fn print_absent(to: &mut impl Write) -> io::Result<()> {
+    print(to, b"\t-")
 }
 
-fn print_field(n: u32) {
-    print(b"\t");
-    print_number(n as usize);
+fn print_field(to: &mut impl Write, n: u32) -> io::Result<()> {
+    print(to, b"\t")?;
+    print_number(to, n as usize)
 }
 
-fn print_marked(mark: &[u8], n: u32) {
-    print(b"\t");
-    print(mark);
-    print_number(n as usize);
+fn print_marked(to: &mut impl Write, mark: &[u8], n: u32) -> io::Result<()> {
+    print(to, b"\t")?;
+    print(to, mark)?;
+    print_number(to, n as usize)
 }
 
-fn print_rnp(v: Rnp) {
+fn print_rnp(to: &mut impl Write, v: Rnp) -> io::Result<()> {
     match v {
-        Rnp::Absent => print_absent(),
-        Rnp::Is(n) => print_field(n),
+        Rnp::Absent => print_absent(to),
+        Rnp::Is(n) => print_field(to, n),
     }
 }
 
-fn print_arc_radius(v: ArcRadius) {
+fn print_arc_radius(to: &mut impl Write, v: ArcRadius) -> io::Result<()> {
     match v {
-        ArcRadius::Absent => print_absent(),
-        ArcRadius::Is(n) => print_field(n.0),
+        ArcRadius::Absent => print_absent(to),
+        ArcRadius::Is(n) => print_field(to, n.0),
     }
 }
 
-fn print_theta(v: Theta) {
+fn print_theta(to: &mut impl Write, v: Theta) -> io::Result<()> {
     match v {
-        Theta::Absent => print_absent(),
-        Theta::Is(n) => print_field(n.0),
+        Theta::Absent => print_absent(to),
+        Theta::Is(n) => print_field(to, n.0),
     }
 }
 
-fn print_rho(v: Rho) {
+fn print_rho(to: &mut impl Write, v: Rho) -> io::Result<()> {
     match v {
-        Rho::Absent => print_absent(),
-        Rho::Is(n) => print_field(n.0),
+        Rho::Absent => print_absent(to),
+        Rho::Is(n) => print_field(to, n.0),
     }
 }
 
-fn print_course(v: Course) {
+fn print_course(to: &mut impl Write, v: Course) -> io::Result<()> {
     match v {
-        Course::Absent => print_absent(),
-        Course::Magnetic(n) => print_marked(b"m", n.0),
-        Course::True(n) => print_marked(b"t", n.0),
+        Course::Absent => print_absent(to),
+        Course::Magnetic(n) => print_marked(to, b"m", n.0),
+        Course::True(n) => print_marked(to, b"t", n.0),
     }
 }
 
-fn print_distance(v: Distance) {
+fn print_distance(to: &mut impl Write, v: Distance) -> io::Result<()> {
     match v {
-        Distance::Absent => print_absent(),
-        Distance::Miles(n) => print_marked(b"d", n.0),
-        Distance::Minutes(n) => print_marked(b"t", n.0),
+        Distance::Absent => print_absent(to),
+        Distance::Miles(n) => print_marked(to, b"d", n.0),
+        Distance::Minutes(n) => print_marked(to, b"t", n.0),
     }
 }
 
-fn print_altitude(v: Altitude) {
+fn print_altitude(to: &mut impl Write, v: Altitude) -> io::Result<()> {
     match v {
-        Altitude::Absent => print_absent(),
-        Altitude::Feet(n) => print_marked(b"f", n.0),
-        Altitude::Below(n) => print_marked(b"b", n.0),
-        Altitude::Level(n) => print_marked(b"l", n.0),
+        Altitude::Absent => print_absent(to),
+        Altitude::Feet(n) => print_marked(to, b"f", n.0),
+        Altitude::Below(n) => print_marked(to, b"b", n.0),
+        Altitude::Level(n) => print_marked(to, b"l", n.0),
     }
 }
 
-fn print_transition_altitude(v: TransitionAltitude) {
+fn print_transition_altitude(to: &mut impl Write, v: TransitionAltitude) -> io::Result<()> {
     match v {
-        TransitionAltitude::Absent => print_absent(),
-        TransitionAltitude::Is(n) => print_field(n.0),
+        TransitionAltitude::Absent => print_absent(to),
+        TransitionAltitude::Is(n) => print_field(to, n.0),
     }
 }
 
-fn print_speed(v: Speed) {
+fn print_speed(to: &mut impl Write, v: Speed) -> io::Result<()> {
     match v {
-        Speed::Absent => print_absent(),
-        Speed::Is(n) => print_field(n.0),
+        Speed::Absent => print_absent(to),
+        Speed::Is(n) => print_field(to, n.0),
     }
 }
 
-fn print_vertical_angle(v: VerticalAngle) {
+fn print_vertical_angle(to: &mut impl Write, v: VerticalAngle) -> io::Result<()> {
     match v {
-        VerticalAngle::Absent => print_absent(),
-        VerticalAngle::Down(n) => print_field(n.0),
+        VerticalAngle::Absent => print_absent(to),
+        VerticalAngle::Down(n) => print_field(to, n.0),
     }
 }
 
 // The file's record number and the cycle, and whether what was written is what was read.
-fn print_end(tail: Tail, case: &[u8], written: [u8; 140]) {
+fn print_end(to: &mut impl Write, tail: Tail, case: &[u8], written: [u8; 140]) -> io::Result<()> {
     let cycle = tail.cycle;
-    print_field(tail.record_number);
-    print_field(cycle.year);
-    print_field(cycle.number);
+    print_field(to, tail.record_number)?;
+    print_field(to, cycle.year)?;
+    print_field(to, cycle.number)?;
     let same = slices::same(case, 0, &written, 0, 133);
     let past = slices::same(&written, 133, &[0u8; 7], 0, 7);
     if same & past {
-        print(b"\tsame\n");
+        print(to, b"\tsame\n")
     } else {
-        print(b"\tdiffers\n");
+        print(to, b"\tdiffers\n")
     }
 }
 
-fn print_leg(leg: Leg, case: &[u8]) {
+fn print_leg(to: &mut impl Write, leg: Leg, case: &[u8]) -> io::Result<()> {
     let terminator = leg.terminator;
     let mut name = [0u8; 132];
     terminator.put(&mut name);
     let head = leg.head;
-    print(b"leg\t");
-    print(&name[47..49]);
-    print_field(head.sequence);
+    print(to, b"leg\t")?;
+    print(to, &name[47..49])?;
+    print_field(to, head.sequence)?;
     let rnp = leg.rnp;
     let arc_radius = leg.arc_radius;
     let theta = leg.theta;
@@ -185,77 +186,89 @@ fn print_leg(leg: Leg, case: &[u8]) {
     let transition_altitude = leg.transition_altitude;
     let speed = leg.speed;
     let vertical_angle = leg.vertical_angle;
-    print_rnp(rnp);
-    print_arc_radius(arc_radius);
-    print_theta(theta);
-    print_rho(rho);
-    print_course(course);
-    print_distance(distance);
-    print_altitude(altitude);
-    print_altitude(second_altitude);
-    print_transition_altitude(transition_altitude);
-    print_speed(speed);
-    print_vertical_angle(vertical_angle);
+    print_rnp(to, rnp)?;
+    print_arc_radius(to, arc_radius)?;
+    print_theta(to, theta)?;
+    print_rho(to, rho)?;
+    print_course(to, course)?;
+    print_distance(to, distance)?;
+    print_altitude(to, altitude)?;
+    print_altitude(to, second_altitude)?;
+    print_transition_altitude(to, transition_altitude)?;
+    print_speed(to, speed)?;
+    print_vertical_angle(to, vertical_angle)?;
     let mut written = [255u8; 140];
     parts::write_leg(leg, &mut written);
     let tail = leg.tail;
-    print_end(tail, case, written);
+    print_end(to, tail, case, written)
 }
 
-fn print_continuation(continuation: Continuation, content: [u8; 83], case: &[u8]) {
+fn print_continuation(
+    to: &mut impl Write,
+    continuation: Continuation,
+    content: [u8; 83],
+    case: &[u8],
+) -> io::Result<()> {
     let head = continuation.head;
-    print(b"continuation");
-    print_field(head.sequence);
-    print(b"\t");
+    print(to, b"continuation")?;
+    print_field(to, head.sequence)?;
+    print(to, b"\t")?;
     let number = [continuation.number];
-    print(&number);
+    print(to, &number)?;
     let mut written = [255u8; 140];
     parts::write_continuation(continuation, content, &mut written);
     let tail = continuation.tail;
-    print_end(tail, case, written);
+    print_end(to, tail, case, written)
 }
 
-fn print_case(case: &[u8]) {
+fn print_case(to: &mut impl Write, case: &[u8]) -> io::Result<()> {
     let reading = parts::read(case);
     let verdict = reading.verdict;
     let read = reading.parts;
     let content = reading.content;
     match read {
-        Parts::Nothing => print_verdict(verdict),
-        Parts::Leg(leg) => print_leg(leg, case),
-        Parts::Continuation(continuation) => print_continuation(continuation, content, case),
+        Parts::Nothing => print_verdict(to, verdict),
+        Parts::Leg(leg) => print_leg(to, leg, case),
+        Parts::Continuation(continuation) => print_continuation(to, continuation, content, case),
     }
 }
 
-fn print_cases(set: &[u8]) {
+fn print_cases(to: &mut impl Write, set: &[u8]) -> io::Result<()> {
     let mut at = 0;
     while at < set.len() {
         let from = at + 1;
         let end = case_end(set, at);
-        print_case(&set[from..end]);
+        print_case(to, &set[from..end])?;
         at = end;
     }
+    Ok(())
 }
 
 // What writing gives.
-fn print_written(k: usize, verdict: Verdict) {
-    print(b"write\t");
-    print_number(k);
-    print(b"\t");
-    print_verdict(verdict);
+fn print_written(to: &mut impl Write, k: usize, verdict: Verdict) -> io::Result<()> {
+    print(to, b"write\t")?;
+    print_number(to, k)?;
+    print(to, b"\t")?;
+    print_verdict(to, verdict)
 }
 
-fn try_leg(k: usize, leg: Leg) {
+fn try_leg(to: &mut impl Write, k: usize, leg: Leg) -> io::Result<()> {
     let mut out = [255u8; 133];
-    print_written(k, parts::write_leg(leg, &mut out));
+    print_written(to, k, parts::write_leg(leg, &mut out))
 }
 
-fn try_continuation(k: usize, continuation: Continuation, content: [u8; 83]) {
+fn try_continuation(
+    to: &mut impl Write,
+    k: usize,
+    continuation: Continuation,
+    content: [u8; 83],
+) -> io::Result<()> {
     let mut out = [255u8; 133];
     print_written(
+        to,
         k,
         parts::write_continuation(continuation, content, &mut out),
-    );
+    )
 }
 
 // The parts of a leg that are changed together: arc radius to distance, and altitude to vertical angle.
@@ -458,50 +471,56 @@ fn with_cycle(base: Leg, year: u32, number: u32) -> Leg {
 }
 
 // The first record's leg, written with each change.
-fn print_number_writes(leg: Leg) {
+fn print_number_writes(to: &mut impl Write, leg: Leg) -> io::Result<()> {
     let t = leg.terminator;
     let radius = leg.arc_radius;
     let theta = leg.theta;
     let rho = leg.rho;
     let course = leg.course;
     let distance = leg.distance;
-    try_leg(1, leg);
-    try_leg(2, with_sequence(leg, 0));
-    try_leg(3, with_sequence(leg, 1000));
-    try_leg(4, with_rnp(leg, Rnp::Is(1000)));
+    try_leg(to, 1, leg)?;
+    try_leg(to, 2, with_sequence(leg, 0))?;
+    try_leg(to, 3, with_sequence(leg, 1000))?;
+    try_leg(to, 4, with_rnp(leg, Rnp::Is(1000)))?;
     let large = ArcRadius::Is(ThousandthsOfMile(1000000));
     try_leg(
+        to,
         5,
         with_flown(leg, t, Flown(large, theta, rho, course, distance)),
-    );
+    )?;
     let large = Theta::Is(TenthsOfDegree(3601));
     try_leg(
+        to,
         6,
         with_flown(leg, t, Flown(radius, large, rho, course, distance)),
-    );
+    )?;
     let large = Rho::Is(TenthsOfMile(10000));
     try_leg(
+        to,
         7,
         with_flown(leg, t, Flown(radius, theta, large, course, distance)),
-    );
+    )?;
     let large = Course::Magnetic(TenthsOfDegree(3601));
     try_leg(
+        to,
         8,
         with_flown(leg, t, Flown(radius, theta, rho, large, distance)),
-    );
+    )?;
     let large = Course::True(WholeDegrees(361));
     try_leg(
+        to,
         9,
         with_flown(leg, t, Flown(radius, theta, rho, large, distance)),
-    );
+    )?;
     let north = Course::True(WholeDegrees(360));
     try_leg(
+        to,
         10,
         with_flown(leg, t, Flown(radius, theta, rho, north, distance)),
-    );
+    )
 }
 
-fn print_distance_writes(leg: Leg) {
+fn print_distance_writes(to: &mut impl Write, leg: Leg) -> io::Result<()> {
     let t = leg.terminator;
     let radius = leg.arc_radius;
     let theta = leg.theta;
@@ -509,47 +528,52 @@ fn print_distance_writes(leg: Leg) {
     let course = leg.course;
     let large = Distance::Miles(TenthsOfMile(10000));
     try_leg(
+        to,
         11,
         with_flown(leg, t, Flown(radius, theta, rho, course, large)),
-    );
+    )?;
     let minute = Distance::Minutes(TenthsOfMinute(10));
     let hm = Terminator::Hm;
     try_leg(
+        to,
         12,
         with_flown(leg, t, Flown(radius, theta, rho, course, minute)),
-    );
+    )?;
     try_leg(
+        to,
         13,
         with_flown(leg, hm, Flown(radius, theta, rho, course, minute)),
-    );
+    )?;
     let large = Distance::Minutes(TenthsOfMinute(1000));
     try_leg(
+        to,
         14,
         with_flown(leg, hm, Flown(radius, theta, rho, course, large)),
-    );
+    )
 }
 
 // Another altitude.
-fn try_altitude(k: usize, leg: Leg, altitude: Altitude) {
+fn try_altitude(to: &mut impl Write, k: usize, leg: Leg, altitude: Altitude) -> io::Result<()> {
     let second = leg.second_altitude;
     let transition = leg.transition_altitude;
     let speed = leg.speed;
     let angle = leg.vertical_angle;
     try_leg(
+        to,
         k,
         with_heights(leg, Heights(altitude, second, transition, speed, angle)),
-    );
+    )
 }
 
-fn print_altitude_writes(leg: Leg) {
-    try_altitude(15, leg, Altitude::Feet(Feet(100000)));
-    try_altitude(16, leg, Altitude::Below(Feet(0)));
-    try_altitude(17, leg, Altitude::Below(Feet(10000)));
-    try_altitude(18, leg, Altitude::Below(Feet(120)));
-    try_altitude(19, leg, Altitude::Level(FlightLevel(1000)));
+fn print_altitude_writes(to: &mut impl Write, leg: Leg) -> io::Result<()> {
+    try_altitude(to, 15, leg, Altitude::Feet(Feet(100000)))?;
+    try_altitude(to, 16, leg, Altitude::Below(Feet(0)))?;
+    try_altitude(to, 17, leg, Altitude::Below(Feet(10000)))?;
+    try_altitude(to, 18, leg, Altitude::Below(Feet(120)))?;
+    try_altitude(to, 19, leg, Altitude::Level(FlightLevel(1000)))
 }
 
-fn print_height_writes(leg: Leg) {
+fn print_height_writes(to: &mut impl Write, leg: Leg) -> io::Result<()> {
     let altitude = leg.altitude;
     let second = leg.second_altitude;
     let transition = leg.transition_altitude;
@@ -557,53 +581,58 @@ fn print_height_writes(leg: Leg) {
     let angle = leg.vertical_angle;
     let large = Altitude::Level(FlightLevel(1000));
     try_leg(
+        to,
         20,
         with_heights(leg, Heights(altitude, large, transition, speed, angle)),
-    );
+    )?;
     let large = TransitionAltitude::Is(Feet(100000));
     try_leg(
+        to,
         21,
         with_heights(leg, Heights(altitude, second, large, speed, angle)),
-    );
+    )?;
     let large = Speed::Is(Knots(1000));
     try_leg(
+        to,
         22,
         with_heights(leg, Heights(altitude, second, transition, large, angle)),
-    );
+    )?;
     let large = VerticalAngle::Down(HundredthsOfDegree(1000));
     try_leg(
+        to,
         23,
         with_heights(leg, Heights(altitude, second, transition, speed, large)),
-    );
+    )
 }
 
-fn print_end_writes(leg: Leg) {
+fn print_end_writes(to: &mut impl Write, leg: Leg) -> io::Result<()> {
     let tail = leg.tail;
     let cycle = tail.cycle;
-    try_leg(24, with_record_number(leg, 100000));
-    try_leg(25, with_cycle(leg, cycle.year, 15));
-    try_leg(26, with_cycle(leg, cycle.year, 0));
-    try_leg(27, with_cycle(leg, 100, cycle.number));
+    try_leg(to, 24, with_record_number(leg, 100000))?;
+    try_leg(to, 25, with_cycle(leg, cycle.year, 15))?;
+    try_leg(to, 26, with_cycle(leg, cycle.year, 0))?;
+    try_leg(to, 27, with_cycle(leg, 100, cycle.number))?;
     try_leg(
+        to,
         28,
         with_airport(leg, Text(b' ', b'K', b'S', b'E', b' ', b' ')),
-    );
+    )
 }
 
-fn print_companion_writes(leg: Leg) {
+fn print_companion_writes(to: &mut impl Write, leg: Leg) -> io::Result<()> {
     let head = leg.head;
     let fix = head.fix;
     let identifier = fix.identifier;
     let icao = fix.icao;
     let section = fix.section;
-    try_leg(29, with_fix(leg, Word::Absent, icao, section));
-    try_leg(30, with_fix(leg, identifier, Word::Absent, section));
-    try_leg(31, with_fix(leg, identifier, icao, Letter::Absent));
-    try_leg(32, without_navaid_identifier(leg));
-    try_leg(33, without_centre_section(leg));
+    try_leg(to, 29, with_fix(leg, Word::Absent, icao, section))?;
+    try_leg(to, 30, with_fix(leg, identifier, Word::Absent, section))?;
+    try_leg(to, 31, with_fix(leg, identifier, icao, Letter::Absent))?;
+    try_leg(to, 32, without_navaid_identifier(leg))?;
+    try_leg(to, 33, without_centre_section(leg))
 }
 
-fn print_needed_writes(leg: Leg) {
+fn print_needed_writes(to: &mut impl Write, leg: Leg) -> io::Result<()> {
     let t = leg.terminator;
     let radius = leg.arc_radius;
     let theta = leg.theta;
@@ -611,24 +640,28 @@ fn print_needed_writes(leg: Leg) {
     let course = leg.course;
     let distance = leg.distance;
     try_leg(
+        to,
         34,
         with_flown(leg, t, Flown(radius, Theta::Absent, rho, course, distance)),
-    );
+    )?;
     try_leg(
+        to,
         35,
         with_flown(leg, t, Flown(radius, theta, rho, Course::Absent, distance)),
-    );
+    )?;
     try_leg(
+        to,
         36,
         with_flown(leg, t, Flown(radius, theta, rho, course, Distance::Absent)),
-    );
+    )?;
     try_leg(
+        to,
         37,
         with_fix(leg, Word::Absent, Word::Absent, Letter::Absent),
-    );
+    )
 }
 
-fn print_both_altitudes_writes(base: Leg) {
+fn print_both_altitudes_writes(to: &mut impl Write, base: Leg) -> io::Result<()> {
     let leg = with_both_altitudes_needed(base);
     let altitude = leg.altitude;
     let transition = leg.transition_altitude;
@@ -636,17 +669,19 @@ fn print_both_altitudes_writes(base: Leg) {
     let angle = leg.vertical_angle;
     let none = Altitude::Absent;
     try_leg(
+        to,
         38,
         with_heights(leg, Heights(altitude, none, transition, speed, angle)),
-    );
+    )?;
     try_leg(
+        to,
         39,
         with_heights(leg, Heights(none, none, transition, speed, angle)),
-    );
+    )
 }
 
 // Faults of three stages at once.
-fn print_faults_write(leg: Leg) {
+fn print_faults_write(to: &mut impl Write, leg: Leg) -> io::Result<()> {
     let t = leg.terminator;
     let radius = leg.arc_radius;
     let rho = leg.rho;
@@ -657,42 +692,42 @@ fn print_faults_write(leg: Leg) {
     let section = fix.section;
     let large = Theta::Is(TenthsOfDegree(3601));
     let faults = with_flown(leg, t, Flown(radius, large, rho, Course::Absent, distance));
-    try_leg(40, with_fix(faults, Word::Absent, icao, section));
+    try_leg(to, 40, with_fix(faults, Word::Absent, icao, section))
 }
 
-fn print_number_write(base: Leg) {
+fn print_number_write(to: &mut impl Write, base: Leg) -> io::Result<()> {
     let mut leg = base;
     leg.continuation = b'2';
-    try_leg(41, leg);
+    try_leg(to, 41, leg)
 }
 
 // A fourteenth cycle, in two years that have it and in one that does not.
-fn print_fourteenth_writes(leg: Leg) {
-    try_leg(42, with_cycle(leg, 20, 14));
-    try_leg(43, with_cycle(leg, 98, 14));
-    try_leg(44, with_cycle(leg, 21, 14));
+fn print_fourteenth_writes(to: &mut impl Write, leg: Leg) -> io::Result<()> {
+    try_leg(to, 42, with_cycle(leg, 20, 14))?;
+    try_leg(to, 43, with_cycle(leg, 98, 14))?;
+    try_leg(to, 44, with_cycle(leg, 21, 14))
 }
 
 // A number of three digits for a cycle: its byte 0 is not in the first column of the field.
-fn print_long_cycle_write(leg: Leg) {
+fn print_long_cycle_write(to: &mut impl Write, leg: Leg) -> io::Result<()> {
     let tail = leg.tail;
     let cycle = tail.cycle;
-    try_leg(45, with_cycle(leg, cycle.year, 100));
+    try_leg(to, 45, with_cycle(leg, cycle.year, 100))
 }
 
-fn print_leg_writes(leg: Leg) {
-    print_number_writes(leg);
-    print_distance_writes(leg);
-    print_altitude_writes(leg);
-    print_height_writes(leg);
-    print_end_writes(leg);
-    print_companion_writes(leg);
-    print_needed_writes(leg);
-    print_both_altitudes_writes(leg);
-    print_faults_write(leg);
-    print_number_write(leg);
-    print_fourteenth_writes(leg);
-    print_long_cycle_write(leg);
+fn print_leg_writes(to: &mut impl Write, leg: Leg) -> io::Result<()> {
+    print_number_writes(to, leg)?;
+    print_distance_writes(to, leg)?;
+    print_altitude_writes(to, leg)?;
+    print_height_writes(to, leg)?;
+    print_end_writes(to, leg)?;
+    print_companion_writes(to, leg)?;
+    print_needed_writes(to, leg)?;
+    print_both_altitudes_writes(to, leg)?;
+    print_faults_write(to, leg)?;
+    print_number_write(to, leg)?;
+    print_fourteenth_writes(to, leg)?;
+    print_long_cycle_write(to, leg)
 }
 
 fn continuation_with_cycle(base: Continuation, year: u32, number: u32) -> Continuation {
@@ -703,57 +738,68 @@ fn continuation_with_cycle(base: Continuation, year: u32, number: u32) -> Contin
 }
 
 // The second record's parts, written with each change.
-fn print_continuation_writes(base: Continuation, bytes: [u8; 83]) {
-    try_continuation(46, base, bytes);
+fn print_continuation_writes(
+    to: &mut impl Write,
+    base: Continuation,
+    bytes: [u8; 83],
+) -> io::Result<()> {
+    try_continuation(to, 46, base, bytes)?;
     let mut continuation = base;
     let mut head = continuation.head;
     head.sequence = 0;
     continuation.head = head;
-    try_continuation(47, continuation, bytes);
+    try_continuation(to, 47, continuation, bytes)?;
     let mut content = bytes;
     content[41] = 31;
-    try_continuation(48, base, content);
+    try_continuation(to, 48, base, content)?;
     let mut continuation = base;
     continuation.number = b'1';
-    try_continuation(49, continuation, bytes);
-    try_continuation(50, continuation_with_cycle(base, 20, 14), bytes);
-    try_continuation(51, continuation_with_cycle(base, 21, 14), bytes);
+    try_continuation(to, 49, continuation, bytes)?;
+    try_continuation(to, 50, continuation_with_cycle(base, 20, 14), bytes)?;
+    try_continuation(to, 51, continuation_with_cycle(base, 21, 14), bytes)
 }
 
-fn print_writes(case: &[u8]) {
+fn print_writes(to: &mut impl Write, case: &[u8]) -> io::Result<()> {
     let reading = parts::read(case);
     let read = reading.parts;
     let content = reading.content;
     match read {
-        Parts::Nothing => {}
-        Parts::Leg(leg) => print_leg_writes(leg),
-        Parts::Continuation(continuation) => print_continuation_writes(continuation, content),
+        Parts::Nothing => Ok(()),
+        Parts::Leg(leg) => print_leg_writes(to, leg),
+        Parts::Continuation(continuation) => print_continuation_writes(to, continuation, content),
     }
 }
 
 // The same of the case whose length stands at `at`.
-fn print_writes_at(set: &[u8], at: usize) {
+fn print_writes_at(to: &mut impl Write, set: &[u8], at: usize) -> io::Result<()> {
     let end = case_end(set, at);
     if at < end {
-        print_writes(&set[at + 1..end]);
+        print_writes(to, &set[at + 1..end])?;
     }
+    Ok(())
 }
 
-fn print_run(from: usize, to: usize, number: u8, column: usize) {
-    print(b"\t");
-    print_number(from);
-    print(b"-");
-    print_number(to);
-    print(b":");
-    print_number(number as usize);
-    print(b":");
-    print_number(column);
+fn print_run(
+    to: &mut impl Write,
+    first: usize,
+    last: usize,
+    number: u8,
+    column: usize,
+) -> io::Result<()> {
+    print(to, b"\t")?;
+    print_number(to, first)?;
+    print(to, b"-")?;
+    print_number(to, last)?;
+    print(to, b":")?;
+    print_number(to, number as usize)?;
+    print(to, b":")?;
+    print_number(to, column)
 }
 
 // Every byte in one column of a record.
-fn print_column(base: [u8; 132], column: usize) {
+fn print_column(to: &mut impl Write, base: [u8; 132], column: usize) -> io::Result<()> {
     if 132 <= column {
-        return;
+        return Ok(());
     }
     let mut rec = base;
     let mut from = 0;
@@ -765,7 +811,7 @@ fn print_column(base: [u8; 132], column: usize) {
         let said = leg::judge(&rec, 0).stated();
         if (said.number != number) | (said.column != at) {
             if 0 < b {
-                print_run(from, b - 1, number, at);
+                print_run(to, from, b - 1, number, at)?;
             }
             from = b;
             number = said.number;
@@ -773,51 +819,52 @@ fn print_column(base: [u8; 132], column: usize) {
         }
         b += 1;
     }
-    print_run(from, 255, number, at);
+    print_run(to, from, 255, number, at)
 }
 
-fn print_line(base: [u8; 132], name: &[u8], column: usize) {
+fn print_line(to: &mut impl Write, base: [u8; 132], name: &[u8], column: usize) -> io::Result<()> {
     if column < 132 {
-        print(b"sweep\t");
-        print(name);
-        print(b"\t");
-        print_number(column + 1);
-        print_column(base, column);
-        print(b"\n");
+        print(to, b"sweep\t")?;
+        print(to, name)?;
+        print(to, b"\t")?;
+        print_number(to, column + 1)?;
+        print_column(to, base, column)?;
+        print(to, b"\n")?;
     }
+    Ok(())
 }
 
 // Every byte in every column of the record that stands in the set from `from` on.
-fn print_sweep(set: &[u8], from: usize, name: &[u8]) {
+fn print_sweep(to: &mut impl Write, set: &[u8], from: usize, name: &[u8]) -> io::Result<()> {
     let mut base = [0u8; 132];
     slices::copy(set, from, &mut base, 0, 132);
     let mut column = 0;
     while column < 132 {
-        print_line(base, name, column);
+        print_line(to, base, name, column)?;
         column += 1;
     }
+    Ok(())
 }
 
-fn print_all(set: &[u8]) {
-    print_cases(set);
+fn print_all(to: &mut impl Write, set: &[u8]) -> io::Result<()> {
+    print_cases(to, set)?;
     let second = case_end(set, 0);
-    print_writes_at(set, 0);
-    print_writes_at(set, second);
-    print_sweep(set, 1, b"leg");
+    print_writes_at(to, set, 0)?;
+    print_writes_at(to, set, second)?;
+    print_sweep(to, set, 1, b"leg")?;
     if second < set.len() {
-        print_sweep(set, second + 1, b"continuation");
+        print_sweep(to, set, second + 1, b"continuation")?;
     }
+    Ok(())
 }
 
-fn main() {
-    let path = b"records.bin";
-    let fd = os::open_read(path);
-    if fd < 0 {
-        os::fail(path);
-        return;
+fn main(rt: HostRuntime) -> io::Result<()> {
+    let mut space = [0u8; 65536];
+    let n = folder::read(&rt, b"records.bin", &mut space);
+    if n == 0 {
+        return Err(io::Error::new(io::ErrorKind::NotFound, "records.bin"));
     }
-    let mut space = io::large_buffer();
-    let n = io::read_full(fd, &mut space);
-    libc::close(fd);
-    print_all(&space[..n]);
+    let mut to = BufWriter::new(rt.alloc(), io::writer(&rt))?;
+    print_all(&mut to, &space[..n])?;
+    to.flush()
 }

@@ -8,38 +8,39 @@
 ghost use Rattle.std.specs.Prelude.{◌≤◌};
 
 use leg::terminator::Terminator;
-use libc::STDOUT_FILENO;
+use std::io;
+use std::io::{BufWriter, Write};
 
-fn print(text: &[u8]) {
-    io::write_all(STDOUT_FILENO, text);
+fn print(to: &mut impl Write, text: &[u8]) -> io::Result<()> {
+    to.write_all(text)
 }
 
-fn print_number(n: usize) {
-    io::print_decimal(STDOUT_FILENO, n as u64);
+fn print_number(to: &mut impl Write, n: usize) -> io::Result<()> {
+    write!(to, "{n}")
 }
 
-fn print_recognised(rec: [u8; 132]) {
+fn print_recognised(to: &mut impl Write, rec: [u8; 132]) -> io::Result<()> {
     let terminator = Terminator::of(&rec);
     let mut name = [0u8; 132];
     terminator.put(&mut name);
-    print(&rec[47..49]);
-    print(b"\t");
-    print_number(terminator.number() + 1);
-    print(b"\t");
-    print(&name[47..49]);
-    print(b"\n");
+    print(to, &rec[47..49])?;
+    print(to, b"\t")?;
+    print_number(to, terminator.number() + 1)?;
+    print(to, b"\t")?;
+    print(to, &name[47..49])?;
+    print(to, b"\n")
 }
 
-fn print_refused(rec: [u8; 132], number: u8, column: usize) {
-    print(b"no\t");
-    print_number(rec[47] as usize);
-    print(b"\t");
-    print_number(rec[48] as usize);
-    print(b"\t");
-    print_number(number as usize);
-    print(b"\t");
-    print_number(column);
-    print(b"\n");
+fn print_refused(to: &mut impl Write, rec: [u8; 132], number: u8, column: usize) -> io::Result<()> {
+    print(to, b"no\t")?;
+    print_number(to, rec[47] as usize)?;
+    print(to, b"\t")?;
+    print_number(to, rec[48] as usize)?;
+    print(to, b"\t")?;
+    print_number(to, number as usize)?;
+    print(to, b"\t")?;
+    print_number(to, column)?;
+    print(to, b"\n")
 }
 
 fn is_accepted(number: u8) -> bool {
@@ -50,14 +51,15 @@ fn is_refused_at_48(number: u8, column: usize) -> bool {
     (number == 3) & (column == 48)
 }
 
-fn print_answer(rec: [u8; 132], number: u8, column: usize) {
+fn print_answer(to: &mut impl Write, rec: [u8; 132], number: u8, column: usize) -> io::Result<()> {
     if is_accepted(number) {
-        print_recognised(rec);
+        print_recognised(to, rec)?;
     } else {
         if !is_refused_at_48(number, column) {
-            print_refused(rec, number, column);
+            print_refused(to, rec, number, column)?;
         }
     }
+    Ok(())
 }
 
 fn one_if(so: bool) -> usize
@@ -66,14 +68,14 @@ fn one_if(so: bool) -> usize
     if so { 1 } else { 0 }
 }
 
-fn print_count(name: &[u8], count: usize) {
-    print(name);
-    print(b"\t");
-    print_number(count);
-    print(b"\n");
+fn print_count(to: &mut impl Write, name: &[u8], count: usize) -> io::Result<()> {
+    print(to, name)?;
+    print(to, b"\t")?;
+    print_number(to, count)?;
+    print(to, b"\n")
 }
 
-fn print_pairs(base: [u8; 132]) {
+fn print_pairs(to: &mut impl Write, base: [u8; 132]) -> io::Result<()> {
     let mut rec = base;
     let mut accepted = 0;
     let mut refused = 0;
@@ -82,24 +84,21 @@ fn print_pairs(base: [u8; 132]) {
         rec[47] = (pair / 256 % 256) as u8;
         rec[48] = (pair % 256) as u8;
         let said = leg::judge(&rec, 1).stated();
-        print_answer(rec, said.number, said.column);
+        print_answer(to, rec, said.number, said.column)?;
         accepted += one_if(is_accepted(said.number));
         refused += one_if(is_refused_at_48(said.number, said.column));
         pair += 1;
     }
-    print_count(b"accepted", accepted);
-    print_count(b"refused", refused);
+    print_count(to, b"accepted", accepted)?;
+    print_count(to, b"refused", refused)
 }
 
-fn main() {
-    let path = b"record.txt";
-    let fd = os::open_read(path);
-    if fd < 0 {
-        os::fail(path);
-        return;
-    }
+fn main(rt: HostRuntime) -> io::Result<()> {
     let mut record = [0u8; 132];
-    io::read_full(fd, &mut record);
-    libc::close(fd);
-    print_pairs(record);
+    if folder::read(&rt, b"record.txt", &mut record) == 0 {
+        return Err(io::Error::new(io::ErrorKind::NotFound, "record.txt"));
+    }
+    let mut to = BufWriter::new(rt.alloc(), io::writer(&rt))?;
+    print_pairs(&mut to, record)?;
+    to.flush()
 }
