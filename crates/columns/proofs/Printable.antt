@@ -11,7 +11,7 @@ use lib.Dec.{eqb, leb}
 use lib.ListN.{length, get_or}
 use borrow.Author.Tests.{eqb-true, leb-true}
 use Rattle.slices.proofs.Cases.{split, and_left, and_right, either}
-use Rattle.slices.proofs.PartLaws.{length_part, get_d_part}
+use Rattle.slices.proofs.PartLaws.{length_part, get_or-part}
 use Rattle.columns.specs.ByteSets.{Range, ByteSet, byte_sets, within, in_ranges, fits_of, fits}
 use Rattle.columns.specs.Patterns.{fits_all}
 use Rattle.columns.specs.Rows.{Alternative, Row, stands, field_at, row_ok, EveryRow}
@@ -137,4 +137,4 @@ printable_columns rec e i h =
         let q : r.column - 1 + k ≡ i = omega arith in
         let l : k < r.width = omega arith in
         let g = each_at Printable (field_at r.column r.width rec) k (rw length_part l) p in
-        rw (get_d_part r.width (r.column - 1) rec k l, q) at g
+        rw (get_or-part r.width (r.column - 1) rec k l, q) at g

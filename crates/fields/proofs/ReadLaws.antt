@@ -12,7 +12,7 @@ use lib.ListN.{length, get_or, replicate, get_or-eq_default}
 use lib.Seq.{sets, sets-eq}
 use borrow.Author.Tests.{ne_eqb}
 use Rattle.slices.specs.Part.{part, blank}
-use Rattle.slices.proofs.PartLaws.{get_d_any, get_d_part, length_part, part_part}
+use Rattle.slices.proofs.PartLaws.{get_or_any, get_or-part, length_part, part_part}
 use Rattle.digits.specs.Digits.{value}
 use Rattle.fields.specs.Text.{letter_of}
 use Rattle.fields.specs.Turn.{turn_of}
@@ -28,7 +28,7 @@ use Rattle.fields.specs.declared.quantities.VerticalAngle.TheVariants as vertica
 
 module _ (n i : ℕ) (xs : List ℕ) (k : ℕ) where
   pub with_blanks_within : k < n → get_or (part n i xs) k 32 ≡ get_or xs (i + k) 0
-  with_blanks_within h = get_d_any (part n i xs) k 32 0 (rw length_part h) ∙ get_d_part n i xs k h
+  with_blanks_within h = get_or_any (part n i xs) k 32 0 (rw length_part h) ∙ get_or-part n i xs k h
 
   pub with_blanks_past : n ≤ k → get_or (part n i xs) k 32 ≡ 32
   with_blanks_past h = get_or-eq_default (part n i xs) 32 (rw length_part h)
@@ -75,7 +75,7 @@ module _ (rec : List ℕ) {b : ℕ} (e : b ≡ get_or rec 43 0) where
 
 -- the byte of a field, and its digits, are those of the record
 byte_of : (n i : ℕ) (rec : List ℕ) (k : ℕ) {b : ℕ} → k < n → b ≡ get_or rec (i + k) 0 → get_or (part n i rec) k 0 ≡ b
-byte_of n i rec k h e = get_d_part n i rec k h ∙ sym e
+byte_of n i rec k h e = get_or-part n i rec k h ∙ sym e
 
 digits_of_lem : (m k n i : ℕ) (rec : List ℕ) {v : ℕ} → k + m ≤ n → v ≡ value (part m (i + k) rec) → value (part m k (part n i rec)) ≡ v
 digits_of_lem m k n i rec h e = ap value (part_part m k n i rec h) ∙ sym e

@@ -37,26 +37,26 @@ unsound w s = absurd (s refl)
 
 -- ---- text
 
-get_d_blanks : (m k : ℕ) → get_or {A = ℕ} (replicate m 32) k 32 ≡ 32
-get_d_blanks zero k = refl
-get_d_blanks (suc m) zero = refl
-get_d_blanks (suc m) (suc k) = get_d_blanks m k
+get_or-blanks : (m k : ℕ) → get_or {A = ℕ} (replicate m 32) k 32 ≡ 32
+get_or-blanks zero k = refl
+get_or-blanks (suc m) zero = refl
+get_or-blanks (suc m) (suc k) = get_or-blanks m k
 
-get_d_with_blanks : (f : List ℕ) (m k : ℕ) → get_or (f ++ replicate m 32) k 32 ≡ get_or f k 32
-get_d_with_blanks [] m k = get_d_blanks m k
-get_d_with_blanks (b ∷ f) m zero = refl
-get_d_with_blanks (b ∷ f) m (suc k) = get_d_with_blanks f m k
+get_or-with_blanks : (f : List ℕ) (m k : ℕ) → get_or (f ++ replicate m 32) k 32 ≡ get_or f k 32
+get_or-with_blanks [] m k = get_or-blanks m k
+get_or-with_blanks (b ∷ f) m zero = refl
+get_or-with_blanks (b ∷ f) m (suc k) = get_or-with_blanks f m k
 
 -- blanks behind a field say nothing
 text_with_blanks : (f : List ℕ) (m : ℕ) → text_of (f ++ replicate m 32) ≡ text_of f
 unfolding text_of
 text_with_blanks f m = λ i. record {
-  0 = get_d_with_blanks f m 0 i;
-  1 = get_d_with_blanks f m 1 i;
-  2 = get_d_with_blanks f m 2 i;
-  3 = get_d_with_blanks f m 3 i;
-  4 = get_d_with_blanks f m 4 i;
-  5 = get_d_with_blanks f m 5 i;
+  0 = get_or-with_blanks f m 0 i;
+  1 = get_or-with_blanks f m 1 i;
+  2 = get_or-with_blanks f m 2 i;
+  3 = get_or-with_blanks f m 3 i;
+  4 = get_or-with_blanks f m 4 i;
+  5 = get_or-with_blanks f m 5 i;
 }
 
 text_again : (t : Text) → text_of (bytes_of t) ≡ t

@@ -55,7 +55,7 @@ values rec c = record {
   no_rnp = λ e. rw (blanks 3 (columns 45 47 rec) e);
   rnp = λ d. rw (filled 3 (columns 45 47 rec) (omega arith) d);
   no_arc_radius = λ e. rw (blanks 6 (columns 57 62 rec) e);
-  arc_radius_lem = λ d. rw (filled 6 (columns 57 62 rec) (omega arith) d);
+  arc_radius = λ d. rw (filled 6 (columns 57 62 rec) (omega arith) d);
   no_theta = λ e. rw (blanks 4 (columns 63 66 rec) e);
   theta = λ d. rw (filled 4 (columns 63 66 rec) (omega arith) d);
   no_rho = λ e. rw (blanks 4 (columns 67 70 rec) e);
@@ -76,7 +76,7 @@ values rec c = record {
   speed = λ d. rw (filled 3 (columns 100 102 rec) (omega arith) d);
   no_angle = λ e. vertical_blank (columns 103 106 rec) (blanks 4 (columns 103 106 rec) e);
   angle = λ f e d. ap vertical_angle_of (behind (codes "-") (columns 103 106 rec) f e) ∙ vertical_of f d.0;
-  record_number_lem = refl;
+  record_number = refl;
   year = refl;
   cycle = refl;
 }

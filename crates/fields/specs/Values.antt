@@ -29,7 +29,7 @@ pub record Values (rec : List ℕ) (g : Leg) : Type 0 where
   pub no_rnp : Blank 3 (columns 45 47 rec) → g.rnp ≡ rnp.Absent
   pub rnp : Digits 3 (columns 45 47 rec) → g.rnp ≡ rnp.Is (value (columns 45 47 rec))
   pub no_arc_radius : Blank 6 (columns 57 62 rec) → g.arc_radius ≡ arc_radius.Absent
-  pub arc_radius_lem : Digits 6 (columns 57 62 rec) → g.arc_radius ≡ arc_radius.Is (record { 0 = value (columns 57 62 rec) })
+  pub arc_radius : Digits 6 (columns 57 62 rec) → g.arc_radius ≡ arc_radius.Is (record { 0 = value (columns 57 62 rec) })
   pub no_theta : Blank 4 (columns 63 66 rec) → g.theta ≡ theta.Absent
   pub theta : Digits 4 (columns 63 66 rec) → g.theta ≡ theta.Is (record { 0 = value (columns 63 66 rec) })
   pub no_rho : Blank 4 (columns 67 70 rec) → g.rho ≡ rho.Absent
@@ -48,6 +48,6 @@ pub record Values (rec : List ℕ) (g : Leg) : Type 0 where
   pub speed : Digits 3 (columns 100 102 rec) → g.speed ≡ speed.Is (record { 0 = value (columns 100 102 rec) })
   pub no_angle : Blank 4 (columns 103 106 rec) → g.vertical_angle ≡ vertical_angle.Absent
   pub angle : (f : List ℕ) → columns 103 106 rec ≡ codes "-" ++ f → Digits 3 f → g.vertical_angle ≡ vertical_angle.Down (record { 0 = value f })
-  pub record_number_lem : g.tail.record_number ≡ value (columns 124 128 rec)
+  pub record_number : g.tail.record_number ≡ value (columns 124 128 rec)
   pub year : g.tail.cycle.year ≡ value (columns 129 130 rec)
   pub cycle : g.tail.cycle.number ≡ value (columns 131 132 rec)

@@ -44,6 +44,7 @@ fn read_at<R: Files>(rt: &R, path: &[u8], into: &mut [u8]) -> usize
 // The bytes of the file, as many as the buffer holds, and zeros past them; none where it can't be opened or can't be read.
 pub fn read<R: Files>(rt: &R, path: &[u8], into: &mut [u8]) -> usize
     ensures counted { result ≤ length into.new }
+    ensures prefix { result ≡ length (take result into.new) }
     ensures cleared { drop result into.new ≡ replicate (length into.old - result) 0 }
 {
     let n = read_at(rt, path, &mut *into);

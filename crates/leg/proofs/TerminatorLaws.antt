@@ -20,7 +20,7 @@ use Rattle.slices.specs.Search.{first_at}
 use Rattle.slices.proofs.Cases.{split, both, and_left, and_right}
 use Rattle.slices.proofs.EveryLaws.{every, below, each_below}
 use Rattle.slices.proofs.OrderLaws.{equal_iff}
-use Rattle.slices.proofs.PartLaws.{get_d_any, part_all, member_append, member_replicate}
+use Rattle.slices.proofs.PartLaws.{get_or_any, part_all, member_append, member_replicate}
 use Rattle.slices.proofs.SearchLaws.{first_before, first_passes}
 use Rattle.columns.specs.Patterns.{codes, texts}
 use Rattle.columns.specs.Terminators.{terminators}
@@ -151,7 +151,7 @@ name_test rec (a ∷ (b ∷ (c ∷ name))) h p q e = absurd (omega arith)
 -- within the order no default is asked for
 pub in_order_lem : (n : ℕ) (d : Terminator) → n < 23 → get_or in_order n d ≡ terminator_at n
 unfolding terminator_at in_order
-in_order_lem n d h = get_d_any in_order n d Vr h
+in_order_lem n d h = get_or_any in_order n d Vr h
 
 -- past the last one it is the last one
 pub past : (n : ℕ) → 23 ≤ n → terminator_at n ≡ Vr

@@ -11,7 +11,7 @@ use borrow.Author.Tests.{eqb-true}
 use Rattle.slices.specs.Part.{part}
 use Rattle.slices.specs.Order.{order}
 use Rattle.slices.specs.declared.Ordering.TheVariants.{Less}
-use Rattle.slices.proofs.PartLaws.{get_d_part}
+use Rattle.slices.proofs.PartLaws.{get_or-part}
 use Rattle.slices.proofs.OrderLaws.{order_less, equal_iff}
 use Rattle.columns.specs.ByteSets.{fits}
 use Rattle.columns.specs.Rows.{byte_in}
@@ -52,7 +52,7 @@ pub kind_by_key : (before rec : List ℕ) → key_of before ≡ key_of rec → k
 unfolding kind_number
 kind_by_key before rec e =
     let at : (i : ℕ) → i < 25 → get_or before (0 + i) 0 ≡ get_or rec (0 + i) 0 =
-    λ i h. sym (get_d_part 25 0 before i h) ∙ ap (λ (k : List ℕ). get_or k i 0) e ∙ get_d_part 25 0 rec i h in
+    λ i h. sym (get_or-part 25 0 before i h) ∙ ap (λ (k : List ℕ). get_or k i 0) e ∙ get_or-part 25 0 rec i h in
     rw (at 12 (omega arith), at 19 (omega arith))
 
 -- the first and the last leg of a route, of which the kind and the leg are at hand

@@ -11,7 +11,7 @@ use lib.Dec.{leb, ltb}
 use lib.ListN.{length, get_or, take, drop, replicate, length-map, get_or-map}
 use borrow.Author.Tests.{leb-true, ltb-true, ltb-false}
 use Rattle.slices.proofs.Cases.{split}
-use Rattle.slices.proofs.PartLaws.{get_d_any}
+use Rattle.slices.proofs.PartLaws.{get_or_any}
 use Rattle.slices.specs.Part.{padded}
 use Rattle.refusals.specs.declared.Refusal.{Refusal}
 use Rattle.refusals.specs.declared.Verdict.TheVariants.{Accepted, Refused}
@@ -93,7 +93,7 @@ module _ (f l : List ℕ) where
       let d = picked_demand f l ws ns xs e in
       let m : n < length (map (record_at f l) xs) = omega (arith, length-map xs (record_at f l)) in
       let q : get_or (map (record_at f l) xs) n [] ≡ record_at f l (get_or xs n 0) =
-      get_d_any (map (record_at f l) xs) n [] (record_at f l 0) m ∙ get_or-map (record_at f l) xs n 0 in
+      get_or_any (map (record_at f l) xs) n [] (record_at f l 0) m ∙ get_or-map (record_at f l) xs n 0 in
       subst (LiesAt f l (get_or xs n 0)) (sym (line_is_record (picked ns xs) n ∙ q))
       (source_range (get_or xs n 0) (sym (ap length q) ∙ every_at (map (record_at f l) xs) d.wide n m))
 

@@ -10,7 +10,7 @@ use lib.Seq.{get_or-take}
 use lib.Dec.{eqb}
 use borrow.Author.Tests.{eqb-true, eqb-false, ne_eqb}
 use Rattle.slices.proofs.Cases.{split}
-use Rattle.slices.proofs.PartLaws.{one_less, get_d_any}
+use Rattle.slices.proofs.PartLaws.{one_less, get_or_any}
 use Rattle.slices.proofs.WriteLaws.{sets-append, stored_front}
 use Rattle.refusals.specs.declared.Refusal.{Refusal}
 use Rattle.refusals.specs.declared.Verdict.TheVariants.{Accepted, Refused}
@@ -143,7 +143,7 @@ module _ (f l : List ℕ) (s : Sources) where
   unfolding line_in in_use
   line_there n h k =
       let m : n < length (take s.count s.at) = omega (arith, length-take s.count s.at) in
-      sym (get_d_any (map (record_at f l) (take s.count s.at)) n [] (record_at f l 0) (omega (arith, length-map (take s.count s.at) (record_at f l)))
+      sym (get_or_any (map (record_at f l) (take s.count s.at)) n [] (record_at f l 0) (omega (arith, length-map (take s.count s.at) (record_at f l)))
       ∙ get_or-map (record_at f l) (take s.count s.at) n 0 ∙ ap (record_at f l) (get_or-take s.count s.at n 0 h))
 
   pub line_is : (n : ℕ) {r : List ℕ} → (n ≡ 0 → ⊥) → n ≤ s.count → n ≤ 480 → length s.at ≡ 480 → r ≡ record_at f l (get_or s.at (n - 1) 0) → r ≡ line_in f l s n

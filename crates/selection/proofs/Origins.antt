@@ -14,7 +14,7 @@ use Rattle.slices.specs.Order.{order}
 use Rattle.slices.specs.declared.Ordering.TheVariants.{Less}
 use Rattle.slices.proofs.Cases.{split}
 use Rattle.slices.proofs.OrderLaws.{irreflexive}
-use Rattle.slices.proofs.PartLaws.{get_d_any}
+use Rattle.slices.proofs.PartLaws.{get_or_any}
 use Rattle.corrections.specs.Reading.{Entry, said, read_log}
 use Rattle.corrections.specs.Text.{Change, takes_out, puts_in}
 use Rattle.corrections.proofs.TextLaws.{entries_from, groups}
@@ -158,7 +158,7 @@ frozen_record_lem f l i h =
     let at : i * 133 ≡ get_or (starts 0 n) i 0 = omega (arith, start_at 0 n i h) in
     ap (record_at f l) at ∙ sym (get_or-map (record_at f l) (starts 0 n) i 0)
     ∙ ap (λ (rs : List (List ℕ)). get_or rs i (record_at f l 0)) (ap (map (record_at f l)) (sym (own_starts f)) ∙ own_sources f l)
-    ∙ get_d_any (records f) i (record_at f l 0) [] h
+    ∙ get_or_any (records f) i (record_at f l 0) [] h
 
 above_at : (p : List ℕ) (rs : List (List ℕ)) (i : ℕ) → H.Above procedures p rs → i < length rs → place_of (get_or rs i []) ≡ p → ⊥
 above_at p [] i a h e = absurd (omega arith)

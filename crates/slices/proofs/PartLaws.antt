@@ -20,23 +20,23 @@ pub one_less : (n k : ℕ) → k < n → n - k ≡ suc (n - (k + 1))
 one_less n k h = omega arith
 
 -- within a list no default is asked for
-pub get_d_any : {A : Type 0} (xs : List A) (i : ℕ) (d e : A) → i < length xs → get_or xs i d ≡ get_or xs i e
-get_d_any [] i d e h = absurd (not-suc-le-zero h)
-get_d_any (x ∷ xs) zero d e h = refl
-get_d_any (x ∷ xs) (suc i) d e h = get_d_any xs i d e (le_of_suc-le-suc h)
+pub get_or_any : {A : Type 0} (xs : List A) (i : ℕ) (d e : A) → i < length xs → get_or xs i d ≡ get_or xs i e
+get_or_any [] i d e h = absurd (not-suc-le-zero h)
+get_or_any (x ∷ xs) zero d e h = refl
+get_or_any (x ∷ xs) (suc i) d e h = get_or_any xs i d e (le_of_suc-le-suc h)
 
 pub length_part : (n i : ℕ) (xs : List ℕ) → length (part n i xs) ≡ n
 unfolding part
 length_part zero i xs = refl
 length_part (suc n) i xs = ap suc (length_part n (suc i) xs)
 
-pub get_d_part : (n i : ℕ) (xs : List ℕ) (k : ℕ) → k < n → get_or (part n i xs) k 0 ≡ get_or xs (i + k) 0
+pub get_or-part : (n i : ℕ) (xs : List ℕ) (k : ℕ) → k < n → get_or (part n i xs) k 0 ≡ get_or xs (i + k) 0
 unfolding part
-get_d_part zero i xs k h = absurd (not-suc-le-zero h)
-get_d_part (suc n) i xs zero h = rw add-zero
-get_d_part (suc n) i xs (suc k) h =
+get_or-part zero i xs k h = absurd (not-suc-le-zero h)
+get_or-part (suc n) i xs zero h = rw add-zero
+get_or-part (suc n) i xs (suc k) h =
     let e : suc i + k ≡ i + suc k = omega arith in
-    get_d_part n (suc i) xs k (le_of_suc-le-suc h) ∙ rw e
+    get_or-part n (suc i) xs k (le_of_suc-le-suc h) ∙ rw e
 
 -- a run of a run
 pub part_part : (m k n i : ℕ) (xs : List ℕ) → k + m ≤ n → part m k (part n i xs) ≡ part m (i + k) xs
@@ -44,7 +44,7 @@ unfolding part
 part_part zero k n i xs h = refl
 part_part (suc m) k n i xs h =
     let e : i + suc k ≡ suc (i + k) = omega arith in
-    ap₂ (λ (b : ℕ) (f : List ℕ). b ∷ f) (get_d_part n i xs k (omega arith)) (part_part m (suc k) n i xs (omega arith) ∙ rw e)
+    ap₂ (λ (b : ℕ) (f : List ℕ). b ∷ f) (get_or-part n i xs k (omega arith)) (part_part m (suc k) n i xs (omega arith) ∙ rw e)
 
 -- two runs, one behind the other
 pub part_append : (m n i : ℕ) (xs : List ℕ) → part (m + n) i xs ≡ part m i xs ++ part n (i + m) xs
@@ -87,8 +87,8 @@ module _ (n : ℕ) (xs ys : List ℕ) (same : part n 0 xs ≡ part n 0 ys) where
   pub same_byte : (i : ℕ) → i < n → get_or xs i 0 ≡ get_or ys i 0
   same_byte i h =
       let e : 0 + i ≡ i = omega arith in
-      let x : get_or (part n 0 xs) i 0 ≡ get_or xs i 0 = get_d_part n 0 xs i h ∙ rw e in
-      let y : get_or (part n 0 ys) i 0 ≡ get_or ys i 0 = get_d_part n 0 ys i h ∙ rw e in
+      let x : get_or (part n 0 xs) i 0 ≡ get_or xs i 0 = get_or-part n 0 xs i h ∙ rw e in
+      let y : get_or (part n 0 ys) i 0 ≡ get_or ys i 0 = get_or-part n 0 ys i h ∙ rw e in
       sym x ∙ ap (λ (t : List ℕ). get_or t i 0) same ∙ y
 
   pub same_part : (m i : ℕ) → i + m ≤ n → part m i xs ≡ part m i ys

@@ -16,8 +16,8 @@ ghost use Rattle.std.specs.Prelude.{◌≤◌, ◌<◌};
 
 use corrections::Index;
 use refusals::Verdict;
-use std::io;
 use std::io::{BufWriter, Write};
+use std::{fs, io};
 use wanted::Wanted;
 
 fn print(to: &mut impl Write, text: &[u8]) -> io::Result<()> {
@@ -222,10 +222,9 @@ fn print_texts(to: &mut impl Write, instructions: &[u8], space: &mut [u8]) -> io
 
 fn main(rt: HostRuntime) -> io::Result<()> {
     let mut instructions = [0u8; 65536];
+    // Where there is none, that is the error.
+    let _file = fs::open(&rt, "texts.bin")?;
     let n = folder::read(&rt, b"texts.bin", &mut instructions);
-    if n == 0 {
-        return Err(io::Error::new(io::ErrorKind::NotFound, "texts.bin"));
-    }
     let mut space = [0u8; 65536];
     let mut to = BufWriter::new(rt.alloc(), io::writer(&rt))?;
     print_texts(&mut to, &instructions[..n], &mut space)?;

@@ -36,9 +36,9 @@ ghost use Rattle.std.specs.Prelude.{◌≤◌, ◌<◌, ◌≡◌, length, IfOk}
 use refusals::{Refusal, Verdict};
 use routes::Sources;
 use selection::{Explained, Failure, Picked};
-use std::io;
 use std::io::{BufWriter, Write};
 use std::rt::Files;
+use std::{fs, io};
 
 fn print(to: &mut impl Write, text: &[u8]) -> io::Result<()> {
     to.write_all(text)
@@ -612,15 +612,12 @@ fn stored_space() -> [u8; 200000]
     [0; 200000]
 }
 
-// How many bytes a stored file has. One that can't be read counts as having none, and is an error.
+// How many bytes a stored file has. One that is not there is an error; one that can't be read to its end counts as having none.
 fn stored(rt: &impl Files, name: &str, into: &mut [u8]) -> io::Result<usize>
     ensures { IfOk result (λ n. n ≤ length into.new) }
 {
-    let n = folder::read(rt, name.as_bytes(), into);
-    if n == 0 {
-        return Err(io::Error::new(io::ErrorKind::NotFound, name));
-    }
-    Ok(n)
+    let _file = fs::open(rt, name)?;
+    Ok(folder::read(rt, name.as_bytes(), into))
 }
 
 fn main(rt: HostRuntime) -> io::Result<()> {

@@ -8,8 +8,8 @@
 ghost use Rattle.std.specs.Prelude.{◌≤◌};
 
 use leg::terminator::Terminator;
-use std::io;
 use std::io::{BufWriter, Write};
+use std::{fs, io};
 
 fn print(to: &mut impl Write, text: &[u8]) -> io::Result<()> {
     to.write_all(text)
@@ -95,9 +95,9 @@ fn print_pairs(to: &mut impl Write, base: [u8; 132]) -> io::Result<()> {
 
 fn main(rt: HostRuntime) -> io::Result<()> {
     let mut record = [0u8; 132];
-    if folder::read(&rt, b"record.txt", &mut record) == 0 {
-        return Err(io::Error::new(io::ErrorKind::NotFound, "record.txt"));
-    }
+    // Where there is none, that is the error.
+    let _file = fs::open(&rt, "record.txt")?;
+    folder::read(&rt, b"record.txt", &mut record);
     let mut to = BufWriter::new(rt.alloc(), io::writer(&rt))?;
     print_pairs(&mut to, record)?;
     to.flush()
