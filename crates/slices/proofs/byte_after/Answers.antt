@@ -1,4 +1,4 @@
--- Past the end of a list getD gives its default. Assumes nothing.
+-- Past the end of a list get_or gives its default. Assumes nothing.
 use native.Mathlib.Omega.{arith}
 use mathlib.Core.Path.{sym}
 use native.Mathlib.Omega.{arith}

@@ -1,4 +1,4 @@
--- Past the end of a list getD gives its default. Assumes nothing.
+-- Past the end of a list get_or gives its default. Assumes nothing.
 use mathlib.Core.Path.{sym}
 use lib.ListN.{get_or-eq_default}
 use Rattle.slices.proofs.byte_at.Goals as goal
