@@ -1,4 +1,4 @@
--- The invariant: the lines that are left, put behind those that are stored, decide the answer. Assumes nothing.
+-- By the invariant: the lines that are left, put behind those that are stored, decide the answer. Assumes nothing.
 use borrow.Author.Rules.{rules}
 use native.Mathlib.Omega.{arith}
 use mathlib.Core.Path.{sym, ◌∙◌}

@@ -1,4 +1,4 @@
--- The invariant: what is left to look at decides the answer. Assumes nothing.
+-- By the invariant: what is left to look at decides the answer. Assumes nothing.
 use mathlib.Core.Path.{sym, ◌∙◌}
 use Rattle.digits.proofs.Turns.{digits_start, digits_next, digits_stop, digits_end}
 use borrow.Author.Rules.{rules}

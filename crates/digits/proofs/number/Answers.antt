@@ -1,4 +1,4 @@
--- The invariant: the value so far and that of the digits that are left give the answer. Assumes nothing.
+-- By the invariant: the value so far and that of the digits that are left give the answer. Assumes nothing.
 use borrow.Author.Rules.{rules}
 use mathlib.Core.Path.{◌≡◌, refl, sym, ◌∙◌}
 use Prim.Native.Nat.{ℕ, ◌≤◌, min}

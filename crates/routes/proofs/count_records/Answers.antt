@@ -1,4 +1,4 @@
--- The invariant: the number of records that are left. Assumes nothing.
+-- By the invariant: the number of records that are left. Assumes nothing.
 use mathlib.Core.Path.{sym, ◌∙◌}
 use native.Mathlib.Nat.{zero-add}
 use Rattle.routes.proofs.SourceLaws.{left_start, left_stop, left_next, left_end, one_more, none_left}

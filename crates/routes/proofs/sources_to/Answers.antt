@@ -1,4 +1,4 @@
--- The invariant: the sources so far. Assumes nothing.
+-- By the invariant: the sources so far. Assumes nothing.
 use mathlib.Core.Path.{◌≡◌, ap, ◌∙◌}
 use native.Mathlib.Omega.{arith}
 use Rattle.routes.specs.Sources.{sources_to}

@@ -1,4 +1,4 @@
--- The invariant: what is left of the range decides the answer. Assumes nothing.
+-- By the invariant: what is left of the range decides the answer. Assumes nothing.
 use mathlib.Core.Path.{sym, ◌∙◌}
 use Rattle.routes.proofs.Turns.{walking_start, walking_stop, walking_next, walking_end}
 use borrow.Author.Rules.{rules}

@@ -1,4 +1,4 @@
--- The invariant: clearing from here gives the answer. Assumes nothing.
+-- By the invariant: clearing from here gives the answer. Assumes nothing.
 use mathlib.Core.Path.{sym, ◌∙◌}
 use native.Mathlib.Omega.{arith}
 use lib.ListN.{length-set}

@@ -1,4 +1,4 @@
--- The invariant: what is left to compare decides the answer. Assumes nothing.
+-- By the invariant: what is left to compare decides the answer. Assumes nothing.
 use borrow.Author.Rules.{rules}
 use mathlib.Core.Path.{sym, ◌∙◌}
 use Rattle.slices.proofs.Turns.{comparing, comparing_start, comparing_on}

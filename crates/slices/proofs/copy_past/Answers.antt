@@ -1,4 +1,4 @@
--- The invariant: what is left to copy gives the answer. Assumes nothing.
+-- By the invariant: what is left to copy gives the answer. Assumes nothing.
 use borrow.Author.Rules.{rules}
 use mathlib.Core.Path.{sym, ◌∙◌}
 use Rattle.slices.proofs.WriteLaws.{copied_start, copied_next, copied_end}

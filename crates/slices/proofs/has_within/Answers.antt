@@ -1,4 +1,4 @@
--- The invariant: what was found and what is left to look at decide the answer. Assumes nothing.
+-- By the invariant: what was found and what is left to look at decide the answer. Assumes nothing.
 use borrow.Author.Rules.{rules}
 use mathlib.Core.Path.{sym, ◌∙◌}
 use Rattle.slices.proofs.Turns.{noted_start, noted_next, noted_end}

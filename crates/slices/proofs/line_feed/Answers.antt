@@ -1,4 +1,4 @@
--- The invariant: what is left to search gives the answer. Assumes nothing.
+-- By the invariant: what is left to search gives the answer. Assumes nothing.
 use Rattle.slices.specs.Search.{is_line_feed}
 use borrow.Author.Tests.{eq-eqb, ne_eqb}
 use Rattle.slices.proofs.SearchLaws.{starts, finds, goes_on, ends}

@@ -1,4 +1,4 @@
--- The invariant: what is left to look at decides the answer. Assumes nothing.
+-- By the invariant: what is left to look at decides the answer. Assumes nothing.
 use borrow.Author.Rules.{rules}
 use native.Mathlib.Omega.{arith}
 use mathlib.Core.Path.{refl, sym, ◌∙◌}

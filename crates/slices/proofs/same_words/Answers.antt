@@ -1,4 +1,4 @@
--- The invariant: what is left to look at decides the answer. Assumes nothing.
+-- By the invariant: what is left to look at decides the answer. Assumes nothing.
 use borrow.Author.Rules.{rules}
 use mathlib.Core.Path.{refl, sym, ◌∙◌}
 use Rattle.slices.proofs.Turns.{same_stop, same_next}

@@ -1,4 +1,4 @@
--- The invariant: the numbers that are left, put behind those that are stored, are the answer. Assumes nothing.
+-- By the invariant: the numbers that are left, put behind those that are stored, are the answer. Assumes nothing.
 use mathlib.Core.Path.{refl, sym, ◌∙◌}
 use native.Mathlib.Omega.{arith}
 use Rattle.wanted.proofs.Turns.{left_start, left_next, left_last, left_end}

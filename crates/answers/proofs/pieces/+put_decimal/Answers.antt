@@ -17,8 +17,8 @@ put_decimal-end-requires t c =
 pub overflow_add-result-2 : goal.overflow_add-result-2
 overflow_add-result-2 t c =
     let short : Short c.args.n = search rules in
-    let r = room_in_front _ _ c.if-n-lt10.false short c.requires in
-    omega (arith, r, c.put_decimal-end.ensures.stops)
+    let room = room_in_front _ _ c.if-n-lt10.false short c.requires in
+    omega (arith, room, c.put_decimal-end.ensures.stops)
 
 pub returns : goal.returns
 returns t c =

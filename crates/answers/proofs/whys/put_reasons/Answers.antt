@@ -1,4 +1,4 @@
--- The invariant: the lines of the first i corrections are written. Assumes nothing.
+-- By the invariant: the lines of the first i corrections are written. Assumes nothing.
 use Rattle.answers.proofs.WhyLaws.{lines_start, lines_next}
 use mathlib.Core.Path.{◌≡◌, refl}
 use native.Mathlib.Omega.{arith}

@@ -1,4 +1,4 @@
--- The invariant: the lines that are left, applied to the state so far, give the answer. Assumes nothing.
+-- By the invariant: the lines that are left, applied to the state so far, give the answer. Assumes nothing.
 use Rattle.applying.proofs.RisingLaws.{line_in_order}
 use Rattle.applying.proofs.ApplyLaws.{gave_some, lines_done, lines_failed, lines_go_on, none_fails, fails_here, fails_later}
 use mathlib.Core.Path.{refl, sym, ◌∙◌}

@@ -1,4 +1,4 @@
--- The invariant: the offsets that are left are within the longest log exactly when all are. Assumes nothing.
+-- By the invariant: the offsets that are left are within the longest log exactly when all are. Assumes nothing.
 use mathlib.Core.Path.{refl}
 use Rattle.applying.proofs.BoundLaws.{bound_state, bound_lines, bound_past, bound_next, bound_holds}
 use borrow.Author.Rules.{rules}

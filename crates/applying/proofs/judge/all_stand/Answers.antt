@@ -1,4 +1,4 @@
--- The invariant: the routes of the lines so far stand. Assumes nothing.
+-- By the invariant: the routes of the lines so far stand. Assumes nothing.
 use Rattle.applying.proofs.RouteLaws.{one_more}
 use Rattle.applying.proofs.TouchedLaws.{each_stands}
 use Rattle.applying.specs.Apply.{RouteStands, in_rows}

@@ -1,4 +1,4 @@
--- The invariant: the routes that are left give the answer. Assumes nothing.
+-- By the invariant: the routes that are left give the answer. Assumes nothing.
 use Rattle.applying.proofs.JudgeLaws.{end_within, route_walked, route_refused_lem, route_stands, route_untouched, routes_end}
 use Rattle.refusals.specs.declared.Verdict.{Verdict}
 use mathlib.Core.Path.{refl, sym, ap, ◌∙◌}

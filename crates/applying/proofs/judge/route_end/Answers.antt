@@ -1,4 +1,4 @@
--- The invariant: what is left of the route gives its end. Assumes nothing.
+-- By the invariant: what is left of the route gives its end. Assumes nothing.
 use Rattle.applying.proofs.JudgeLaws.{together_end, together_stop, together_next}
 use mathlib.Core.Path.{refl}
 use Rattle.applying.specs.State.{held}

@@ -1,4 +1,4 @@
--- The invariant: the lines that are left give the answer. Assumes nothing.
+-- By the invariant: the lines that are left give the answer. Assumes nothing.
 use Rattle.applying.proofs.JudgeLaws.{touched_end, touched_found, touched_next}
 use mathlib.Core.Path.{refl, sym, ◌∙◌}
 use native.Mathlib.Omega.{arith}

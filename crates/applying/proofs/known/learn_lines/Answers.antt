@@ -1,4 +1,4 @@
--- The invariant: what is known is so. Assumes nothing.
+-- By the invariant: what is known is so. Assumes nothing.
 use Rattle.applying.proofs.known.learn_lines.Goals as goal
 
 pub learn_line-requires : goal.learn_line-requires

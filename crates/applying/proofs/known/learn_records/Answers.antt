@@ -1,4 +1,4 @@
--- The invariant: what is known is so. Assumes nothing.
+-- By the invariant: what is known is so. Assumes nothing.
 use Rattle.routes.proofs.KnownLaws.{known_learned}
 use borrow.Author.Rules.{rules}
 use Rattle.applying.proofs.known.learn_records.Goals as goal

@@ -1,4 +1,4 @@
--- The invariant: what is left of the lines gives their end. Assumes nothing.
+-- By the invariant: what is left of the lines gives their end. Assumes nothing.
 use Rattle.applying.proofs.RunLaws.{leading_end, leading_stop, leading_next}
 use mathlib.Core.Path.{refl}
 use native.Mathlib.Omega.{arith}

@@ -1,4 +1,4 @@
--- The invariant: the corrections that are left, over the state so far, give the answer. Assumes nothing.
+-- By the invariant: the corrections that are left, over the state so far, give the answer. Assumes nothing.
 use Rattle.applying.proofs.RunLaws.{counted, run_starts, run_of_rows, run_ends, run_stops, run_goes_on, order_goes_on}
 use mathlib.Core.Path.{refl, subst}
 use Rattle.applying.specs.Correct.{Comes}

@@ -1,4 +1,4 @@
--- The invariant: all before `low` stand before the record, and none from `high` on. Assumes nothing.
+-- By the invariant: all before `low` stand before the record, and none from `high` on. Assumes nothing.
 use Rattle.applying.proofs.RisingLaws.{half_reached, half_passed, halves_end}
 use Rattle.applying.proofs.StateLaws.{search_starts}
 use mathlib.Core.Path.{refl}

@@ -1,4 +1,4 @@
--- The invariant: what is left of the search gives the answer. Assumes nothing.
+-- By the invariant: what is left of the search gives the answer. Assumes nothing.
 use Rattle.applying.proofs.StateLaws.{search_starts, search_finds, search_goes_on, search_ends}
 use native.Mathlib.Omega.{arith}
 use Rattle.applying.proofs.state.count_in_turn.Goals as goal

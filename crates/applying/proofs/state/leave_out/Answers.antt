@@ -1,4 +1,4 @@
--- The invariant: what is left out where the loop stands gives the answer. Assumes nothing.
+-- By the invariant: what is left out where the loop stands gives the answer. Assumes nothing.
 use Rattle.applying.proofs.ShiftLaws.{out_step, out_done}
 use mathlib.Core.Path.{refl, ◌∙◌}
 use Rattle.routes.specs.Sources.{in_use}

@@ -1,4 +1,4 @@
--- The invariant: what is carried, put in where the loop stands, gives the answer. Assumes nothing.
+-- By the invariant: what is carried, put in where the loop stands, gives the answer. Assumes nothing.
 use Rattle.applying.proofs.ShiftLaws.{put_step, put_done}
 use mathlib.Core.Path.{refl, ◌∙◌}
 use Rattle.routes.specs.Sources.{in_use}

@@ -1,4 +1,4 @@
--- The invariant: what is left to be copied behind what was found gives the answer. Assumes nothing.
+-- By the invariant: what is left to be copied behind what was found gives the answer. Assumes nothing.
 use Rattle.applying.proofs.RangeLaws.{range_start, range_next, range_end}
 use Rattle.applying.specs.State.{held}
 use native.Mathlib.Omega.{arith}

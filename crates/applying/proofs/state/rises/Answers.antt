@@ -1,4 +1,4 @@
--- The invariant: the places of the first i rise. Assumes nothing.
+-- By the invariant: the places of the first i rise. Assumes nothing.
 use Rattle.applying.proofs.RisingLaws.{tested_next, tested_all}
 use Rattle.applying.specs.State.{held}
 use mathlib.Core.Bool.{false≢true}

@@ -1,4 +1,4 @@
--- The invariant: the alternatives that are left decide the answer; the field's first byte is at hand. Assumes nothing.
+-- By the invariant: the alternatives that are left decide the answer; the field's first byte is at hand. Assumes nothing.
 use borrow.Author.Rules.{rules}
 use mathlib.Core.Path.{sym, ◌∙◌}
 use Rattle.columns.proofs.Turns.{alternatives_start, alternatives_go, alternatives_found, alternatives_end}

@@ -1,4 +1,4 @@
--- The invariant: the best so far, or the best of the alternatives that are left. Assumes nothing.
+-- By the invariant: the best so far, or the best of the alternatives that are left. Assumes nothing.
 use borrow.Author.Rules.{rules}
 use Rattle.columns.proofs.Turns.{longest_start, longest_go, longest_end}
 use Rattle.columns.proofs.matcher.longest_run.Goals as goal

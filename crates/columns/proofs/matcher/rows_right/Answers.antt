@@ -1,4 +1,4 @@
--- The invariant: the rows passed are right. Assumes nothing.
+-- By the invariant: the rows passed are right. Assumes nothing.
 use mathlib.Core.Bool.{false≢true}
 use Rattle.columns.proofs.QuickLaws.{rows_none, rows_next, rows_all}
 use borrow.Author.Rules.{rules}

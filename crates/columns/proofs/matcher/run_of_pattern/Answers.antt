@@ -1,4 +1,4 @@
--- The invariant: the letters passed, and as many as the rest goes on. Assumes nothing.
+-- By the invariant: the letters passed, and as many as the rest goes on. Assumes nothing.
 use borrow.Author.Rules.{rules}
 use Rattle.columns.proofs.Turns.{run_start, run_go, run_stop, run_end}
 use Rattle.columns.proofs.matcher.run_of_pattern.Goals as goal

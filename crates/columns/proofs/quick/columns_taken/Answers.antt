@@ -1,4 +1,4 @@
--- The invariant: while all is well, the columns passed are taken. Assumes nothing.
+-- By the invariant: while all is well, the columns passed are taken. Assumes nothing.
 use Rattle.columns.proofs.QuickLaws.{taken_first, taken_next}
 use borrow.Author.Rules.{rules}
 use native.Mathlib.Omega.{arith}

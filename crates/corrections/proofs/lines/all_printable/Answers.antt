@@ -1,4 +1,4 @@
--- The invariant: what was noted and what is left to look at decide the answer. Assumes nothing.
+-- By the invariant: what was noted and what is left to look at decide the answer. Assumes nothing.
 use borrow.Author.Rules.{rules}
 use mathlib.Core.Path.{sym, ◌∙◌}
 use Rattle.corrections.proofs.ReachLaws.{left_start, left_next, left_end}

@@ -1,4 +1,4 @@
--- The invariant: as many bytes go along from here as from the start. Assumes nothing.
+-- By the invariant: as many bytes go along from here as from the start. Assumes nothing.
 use mathlib.Core.Path.{sym, ◌∙◌}
 use Rattle.corrections.specs.Lines.{change}
 use Rattle.corrections.proofs.ReachLaws.{along_start, along_end, change_stop, change_next}

@@ -1,4 +1,4 @@
--- The invariant: the bytes are the heading's, and as many go along from here as from the start. Assumes nothing.
+-- By the invariant: the bytes are the heading's, and as many go along from here as from the start. Assumes nothing.
 use mathlib.Core.Path.{sym, ◌∙◌}
 use native.Mathlib.Omega.{arith}
 use Rattle.corrections.proofs.ReachLaws.{along_start, along_end, heading_six, heading_stop, heading_next}

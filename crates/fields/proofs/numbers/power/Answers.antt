@@ -1,4 +1,4 @@
--- The invariant: a power for each turn. Assumes nothing.
+-- By the invariant: a power for each turn. Assumes nothing.
 use borrow.Author.Rules.{rules}
 use mathlib.Core.Path.{refl, ap, ◌∙◌}
 use Prim.Native.Nat.{ℕ, ◌^◌}

@@ -1,4 +1,4 @@
--- The invariant: what is there, with the digits that are left put over it, is the answer. Assumes nothing.
+-- By the invariant: what is there, with the digits that are left put over it, is the answer. Assumes nothing.
 use borrow.Author.Rules.{rules}
 use mathlib.Core.Path.{sym, ◌∙◌}
 use native.Mathlib.Omega.{arith}

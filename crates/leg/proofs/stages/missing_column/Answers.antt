@@ -1,4 +1,4 @@
--- The invariant: the fields that are left give the answer. Assumes nothing.
+-- By the invariant: the fields that are left give the answer. Assumes nothing.
 use borrow.Author.Rules.{rules}
 use mathlib.Core.Path.{refl}
 use Rattle.leg.proofs.StageLaws.{counted, counted_at, missing_here, missing_on, missing_none}

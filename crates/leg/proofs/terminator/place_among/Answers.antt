@@ -1,4 +1,4 @@
--- The invariant: the two letters of the record, and the names that are left give the answer. Assumes nothing.
+-- By the invariant: the two letters of the record, and the names that are left give the answer. Assumes nothing.
 use mathlib.Core.Path.{◌∙◌}
 use mathlib.Core.List.{[]}
 use native.Mathlib.Nat.{zero-add}

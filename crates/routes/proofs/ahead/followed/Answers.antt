@@ -1,4 +1,4 @@
--- The invariant: what is left decides the answer. Assumes nothing.
+-- By the invariant: what is left decides the answer. Assumes nothing.
 use mathlib.Core.Path.{sym, ◌∙◌}
 use native.Mathlib.Omega.{arith}
 use Rattle.routes.proofs.Turns.{following_start, following_stop, following_found, following_next, following_end}

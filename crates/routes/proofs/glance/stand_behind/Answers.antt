@@ -1,4 +1,4 @@
--- The invariant: where the others stand behind the record that was come to, all of them stand behind the first. Assumes nothing.
+-- By the invariant: where the others stand behind the record that was come to, all of them stand behind the first. Assumes nothing.
 use mathlib.Core.Path.{sym, ◌∙◌}
 use mathlib.Core.Bool.{false≢true}
 use native.Mathlib.Omega.{arith}

@@ -1,4 +1,4 @@
--- The invariant: the lines that are left give the answer. Assumes nothing.
+-- By the invariant: the lines that are left give the answer. Assumes nothing.
 use mathlib.Core.Path.{◌∙◌}
 use native.Mathlib.Nat.{zero-add}
 use Rattle.slices.proofs.SearchLaws.{starts, finds, goes_on, ends}

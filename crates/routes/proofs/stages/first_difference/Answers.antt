@@ -1,4 +1,4 @@
--- The invariant: what is left of the two records decides the answer. Assumes nothing.
+-- By the invariant: what is left of the two records decides the answer. Assumes nothing.
 use Rattle.routes.proofs.Turns.{differing_start, differing_next, differing_found, differing_end}
 use Rattle.routes.proofs.Steps.{difference_iff}
 use Rattle.slices.proofs.PartLaws.{length_part}

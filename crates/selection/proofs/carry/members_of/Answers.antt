@@ -1,4 +1,4 @@
--- The invariant: the numbers that are left, behind those that were found, are the answer. Assumes nothing.
+-- By the invariant: the numbers that are left, behind those that were found, are the answer. Assumes nothing.
 use Rattle.selection.proofs.MemberLaws.{members_start, members_next, members_end, grown_few}
 use native.Mathlib.Omega.{arith}
 use Rattle.selection.proofs.carry.members_of.Goals as goal

@@ -1,4 +1,4 @@
--- The invariant: the line feeds that are left, with those counted, give the line. Assumes nothing.
+-- By the invariant: the line feeds that are left, with those counted, give the line. Assumes nothing.
 use Rattle.selection.proofs.FailingLaws.{no_line_lem, lines_start, lines_next, lines_end}
 use native.Mathlib.Omega.{arith}
 use Rattle.selection.proofs.choosing.line_at.Goals as goal

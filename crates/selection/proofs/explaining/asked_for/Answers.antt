@@ -1,4 +1,4 @@
--- The invariant: the wanted numbers are those that are marked and those that are left. Assumes nothing.
+-- By the invariant: the wanted numbers are those that are marked and those that are left. Assumes nothing.
 use Rattle.selection.proofs.ExplainLaws.{asked_start, asked_next, asked_end}
 use Rattle.selection.proofs.explaining.asked_for.Goals as goal
 

@@ -1,4 +1,4 @@
--- The invariant: what is left to be found, behind what was, gives the answer. Assumes nothing.
+-- By the invariant: what is left to be found, behind what was, gives the answer. Assumes nothing.
 use Rattle.selection.proofs.ExplainLaws.{filled_start, filled_next, filled_end}
 use lib.ListN.{length}
 use mathlib.Core.Path.{◌≡◌, refl}

@@ -1,4 +1,4 @@
--- The invariant: the lines that are left give the answer. Assumes nothing.
+-- By the invariant: the lines that are left give the answer. Assumes nothing.
 use Rattle.selection.proofs.ExplainLaws.{named_start, named_found, named_next, named_end}
 use native.Mathlib.Omega.{arith}
 use Rattle.selection.proofs.explaining.first_naming.Goals as goal

@@ -1,4 +1,4 @@
--- The invariant: what is left to be stored gives the answer. Assumes nothing.
+-- By the invariant: what is left to be stored gives the answer. Assumes nothing.
 use mathlib.Core.Path.{refl}
 use Rattle.selection.proofs.StoredLaws.{stored_start, stored_next, stored_end}
 use borrow.Author.Rules.{rules}

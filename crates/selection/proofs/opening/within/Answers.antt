@@ -1,4 +1,4 @@
--- The invariant: the numbers that are left give the answer. Assumes nothing.
+-- By the invariant: the numbers that are left give the answer. Assumes nothing.
 use mathlib.Core.Path.{refl}
 use Rattle.selection.proofs.OpeningLaws.{wanted_zero, wanted_past, wanted_next, wanted_end}
 use borrow.Author.Rules.{rules}

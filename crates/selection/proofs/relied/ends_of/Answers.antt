@@ -1,4 +1,4 @@
--- The invariant: the table holds of the lines that were looked at. Assumes nothing.
+-- By the invariant: the table holds of the lines that were looked at. Assumes nothing.
 use Rattle.selection.proofs.MarkLaws.{ends_start, ends_skip, ends_next, ends_end}
 use borrow.Author.Rules.{rules}
 use native.Mathlib.Omega.{arith}

@@ -1,4 +1,4 @@
--- The invariant: of every index with these lines, what is left, behind what was found, gives the answer. Assumes nothing.
+-- By the invariant: of every index with these lines, what is left, behind what was found, gives the answer. Assumes nothing.
 use mathlib.Core.Path.{refl}
 use Rattle.selection.proofs.RelianceLaws.{reliance_start, reliance_next, reliance_end}
 use borrow.Author.Rules.{rules}

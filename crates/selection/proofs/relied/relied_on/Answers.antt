@@ -1,4 +1,4 @@
--- The invariant: what the line relies on stands among the lines that are left. Assumes nothing.
+-- By the invariant: what the line relies on stands among the lines that are left. Assumes nothing.
 use mathlib.Core.Path.{ap, ◌∙◌}
 use Prim.Native.Nat.{◌-◌}
 use Rattle.routes.specs.Sources.{record_at}

@@ -1,4 +1,4 @@
--- The invariant: the first wanted corrections, and what they reach, are marked. Assumes nothing.
+-- By the invariant: the first wanted corrections, and what they reach, are marked. Assumes nothing.
 use mathlib.Core.Path.{refl}
 use Rattle.selection.proofs.MarkLaws.{taken_start, taken_next, taken_end}
 use borrow.Author.Rules.{rules}
