@@ -34,11 +34,13 @@ make_ready() { # CRATE
     # The mark is as old as the beginning, so that what is changed meanwhile is seen the next time.
     rt version >"$mark.$$" || fail "the Rattle toolchain can't say its version"
     # rt leaves the program in out/, only where it is proved, and then runs it once; it finds no files there, and what it says of none is of no use.
-    made=$root/crates/$1/out/$1
-    set -- rt run
+    # All of it is under one lock, so that no other takes the program away before it is copied.
+    # shellcheck disable=SC2016
+    set -- sh -c 'rm -f "$1" && cd "${1%/out/*}" && rt run >/dev/null; [ -x "$1" ] && cp "$1" "$2.$$" && mv "$2.$$" "$2"' \
+        sh "$root/crates/$1/out/$1" "$built"
     if command -v flock >/dev/null; then set -- flock "$root/target/ready/lock" "$@"; fi
     # Of all that rt says, a line for each crate is shown while one waits.
-    { rm -f "$made" && cd "${made%/out/*}" && "$@" >/dev/null; [ -x "$made" ] && cp "$made" "$built.$$" && mv "$built.$$" "$built" && mv "$mark.$$" "$mark"; } </dev/null 2>&1 | tee "$mark.said" |
+    { "$@" && mv "$mark.$$" "$mark"; } </dev/null 2>&1 | tee "$mark.said" |
         while IFS= read -r line; do case $line in 'rt: '*) printf '%s\n' "$line" >&2 ;; esac; done
     if [ -e "$mark.$$" ]; then
         rm -f "$mark.$$"
