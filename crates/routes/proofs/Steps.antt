@@ -22,9 +22,7 @@ use Rattle.columns.specs.Words.{columns}
 use Rattle.columns.specs.Kinds.{kind_of}
 use Rattle.columns.specs.declared.Kind.{Kind}
 use Rattle.columns.specs.declared.Kind.TheVariants.{Primary, Continuation}
-use Rattle.refusals.specs.Table.{continuation_head, route_not_later, sequence_not_risen, leg_pair, leg_ending, continuation_number}
-use Rattle.refusals.specs.declared.Verdict.{Verdict}
-use Rattle.refusals.specs.declared.Verdict.TheVariants.{Accepted, Refused}
+use Rattle.refusals.specs.Table.{continuation_head, route_not_later, sequence_not_risen, leg_pair, leg_ending, continuation_number, Verdict, Accepted, Refused}
 use Rattle.leg.specs.Judge.{stage, judged}
 use Rattle.leg.specs.Legal.{Legal}
 use Rattle.leg.proofs.Legality.{accepted_iff, stage_iff}

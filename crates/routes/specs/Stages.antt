@@ -11,9 +11,7 @@ use Rattle.columns.specs.Rows.{byte_in}
 use Rattle.columns.specs.Words.{columns}
 use Rattle.columns.specs.declared.Kind.{Kind}
 use Rattle.columns.specs.declared.Kind.TheVariants.{Primary, Continuation}
-use Rattle.refusals.specs.Table.{continuation_head, route_not_later, sequence_not_risen, leg_pair, leg_ending}
-use Rattle.refusals.specs.declared.Verdict.{Verdict}
-use Rattle.refusals.specs.declared.Verdict.TheVariants.{Accepted, Refused}
+use Rattle.refusals.specs.Table.{continuation_head, route_not_later, sequence_not_risen, leg_pair, leg_ending, Verdict, Accepted, Refused}
 use Rattle.leg.specs.Judge.{stage}
 use Rattle.routes.specs.Pairs.{terminator_in, first_leg, last_leg, pair}
 
