@@ -16,8 +16,8 @@ use lib.ListN.{length, drop}
 use borrow.Author.Tests.{leb-false}
 use Rattle.slices.specs.Order.{order, equal}
 use Rattle.slices.specs.Search.{first_at}
-use Rattle.slices.specs.declared.Ordering.{Ordering}
-use Rattle.slices.specs.declared.Ordering.TheVariants.{Less, Equal, Greater}
+use Rattle.std.specs.declared.cmp.Ordering.{Ordering}
+use Rattle.std.specs.declared.cmp.Ordering.TheVariants.{Less, Equal, Greater}
 use Rattle.slices.proofs.Cases.{split}
 use Rattle.slices.proofs.OrderLaws.{irreflexive, turned, order_turned, order_equal}
 use Rattle.refusals.specs.declared.Refusal.{Refusal}

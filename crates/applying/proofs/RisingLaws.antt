@@ -17,8 +17,8 @@ use lib.Dec.{eqb, leb}
 use lib.ListN.{length, get_or, drop}
 use borrow.Author.Tests.{leb-false}
 use Rattle.slices.specs.Order.{order}
-use Rattle.slices.specs.declared.Ordering.{Ordering}
-use Rattle.slices.specs.declared.Ordering.TheVariants.{Less, Equal, Greater}
+use Rattle.std.specs.declared.cmp.Ordering.{Ordering}
+use Rattle.std.specs.declared.cmp.Ordering.TheVariants.{Less, Equal, Greater}
 use Rattle.slices.proofs.Cases.{split}
 use Rattle.slices.proofs.OrderLaws.{transitive}
 use Rattle.slices.proofs.SearchLaws.{Come, starts, goes_on, finds, ends}

@@ -12,8 +12,8 @@ use lib.Seq.{get_or-take, length-take-le, take_at}
 use Rattle.slices.specs.Part.{part}
 use Rattle.slices.specs.Order.{order, equal}
 use Rattle.slices.specs.Search.{first_at}
-use Rattle.slices.specs.declared.Ordering.{Ordering}
-use Rattle.slices.specs.declared.Ordering.TheVariants.{Less, Equal, Greater}
+use Rattle.std.specs.declared.cmp.Ordering.{Ordering}
+use Rattle.std.specs.declared.cmp.Ordering.TheVariants.{Less, Equal, Greater}
 use Rattle.slices.proofs.Cases.{split}
 use Rattle.slices.proofs.OrderLaws.{after, order_greater, order_level, order_refl, order_turned, turned, order_equal, equal_iff, irreflexive, transitive}
 use Rattle.slices.proofs.PartLaws.{length_part}

@@ -11,7 +11,7 @@ use lib.ListN.{length, get_or, take, drop}
 use borrow.Author.Tests.{eqb-true}
 use Rattle.slices.specs.Part.{part}
 use Rattle.slices.specs.Order.{order}
-use Rattle.slices.specs.declared.Ordering.TheVariants.{Less}
+use Rattle.std.specs.declared.cmp.Ordering.TheVariants.{Less}
 use Rattle.slices.proofs.PartLaws.{get_or-part}
 use Rattle.slices.proofs.OrderLaws.{order_less, equal_iff}
 use Rattle.columns.specs.ByteSets.{fits}

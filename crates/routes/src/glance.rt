@@ -11,7 +11,8 @@ ghost use Rattle.routes.specs.Glance.{lone, Begins, Follows, StandingIn};
 use crate::known::knows;
 use crate::{KEY, NUMBER, pairs, record_at};
 use leg::terminator::Terminator;
-use slices::{Ordering, byte_at, compare, least, same};
+use slices::{byte_at, compare, least, same};
+use std::cmp::Ordering;
 
 // Whether a record is a primary without continuations.
 fn lone(rec: &[u8]) -> bool

@@ -20,7 +20,8 @@ use crate::pairs;
 use columns::Kind;
 use leg::terminator::Terminator;
 use refusals::{Refusal, Verdict};
-use slices::{Ordering, byte_at, compare, same};
+use slices::{byte_at, compare, same};
+use std::cmp::Ordering;
 
 // The continuation number after a number, or 0 where none comes after it.
 fn number_after(b: u8) -> u8
