@@ -8,6 +8,7 @@ pub mod known;
 mod pairs;
 mod record;
 mod stages;
+mod texts;
 
 ghost use Rattle.std.specs.Prelude.{◌≡◌, [], ◌∷◌, ◌≤◌, length};
 ghost use Rattle.routes.specs.InTurn.{in_turn};
@@ -22,6 +23,7 @@ use columns::Kind;
 use known::{NOTHING_KNOWN, knows};
 use refusals::{MOST_RECORDS, Refusal, Verdict};
 use slices::least;
+pub use texts::Texts;
 
 // Where the key of a route ends, and the head that a continuation shares with its primary; the column of the continuation number.
 const KEY: usize = 25;
