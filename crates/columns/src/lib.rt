@@ -7,17 +7,17 @@ mod byte_sets;
 pub mod field;
 mod matcher;
 mod quick;
+mod row;
 mod tables;
 
 ghost use Rattle.std.specs.Prelude.{◌≡◌};
 ghost use Rattle.columns.specs.Kinds.{kind_of, layout_of, first_bad_field, bad_byte};
-ghost use Rattle.columns.specs.Rows.{first_of};
-ghost use Rattle.columns.specs.Stops.{answer_of};
+ghost use Rattle.columns.specs.Found.{FirstWrong};
 
 use field::Field;
-use matcher::Aim;
+use row::Row;
 
-#[derive(Clone, Copy)]
+#[derive(Clone, Copy, Debug, PartialEq, Eq)]
 pub enum Kind {
     Primary,
     Continuation,
@@ -34,14 +34,13 @@ pub fn kind_of(rec: &[u8]) -> Kind
     }
 }
 
-// The answer of the leftmost field of the record's own layout that holds nothing legal, or 0.
-fn first_bad_of(rec: &[u8], aim: Aim) -> usize
-    ensures { result ≡ first_of (answer_of aim) (layout_of (kind_of rec.now)) rec.now }
+// The leftmost row of the record's own layout that it does not fit.
+fn first_wrong(rec: &[u8]) -> Option<Row<'_>>
+    ensures { FirstWrong (layout_of (kind_of rec.now)) rec.now result }
 {
-    let kind = kind_of(rec);
-    match kind {
-        Kind::Primary => tables::first_bad_of_primary(rec, aim),
-        Kind::Continuation => tables::first_bad_of_continuation(rec, aim),
+    match kind_of(rec) {
+        Kind::Primary => tables::first_wrong_of_primary(rec),
+        Kind::Continuation => tables::first_wrong_of_continuation(rec),
     }
 }
 
@@ -50,7 +49,7 @@ fn first_bad_of(rec: &[u8], aim: Aim) -> usize
 pub fn first_bad(rec: &[u8]) -> usize
     ensures { result ≡ first_bad_field rec.now }
 {
-    first_bad_of(rec, Aim::Field)
+    first_wrong(rec).map_or(0, |row| row.column())
 }
 
 // The first column of that field at which no legal content of the field begins with its bytes so far, or 0 where every field holds
@@ -58,5 +57,5 @@ pub fn first_bad(rec: &[u8]) -> usize
 pub fn bad_byte(rec: &[u8]) -> usize
     ensures { result ≡ bad_byte rec.now }
 {
-    first_bad_of(rec, Aim::Byte)
+    first_wrong(rec).map_or(0, |row| row.stop())
 }
