@@ -24,6 +24,7 @@ pub enum Kind {
 }
 
 // Which kind a record is, by column 39: 2 to 9 and A to Z number a continuation, anything else is judged as a primary.
+#[tactic(auto, unfolding(crate::specs::Kinds::kind_of))]
 pub fn kind_of(rec: &[u8]) -> Kind
     ensures { result ≡ kind_of rec.now }
 {
@@ -35,6 +36,7 @@ pub fn kind_of(rec: &[u8]) -> Kind
 }
 
 // The leftmost row of the record's own layout that it does not fit.
+#[tactic(auto, unfolding(crate::specs::Kinds::layout_of))]
 fn first_wrong(rec: &[u8]) -> Option<Row<'_>>
     ensures { FirstWrong (layout_of (kind_of rec.now)) rec.now result }
 {

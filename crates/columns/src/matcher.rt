@@ -14,6 +14,7 @@ use crate::row::{Row, RowPlace};
 use slices::{byte_after, byte_at};
 
 // Whether the record's column holds a byte that fits the letter c. Column 0 stands for no column, and holds whatever is asked.
+#[tactic(auto, unfolding(crate::specs::Rows::stands))]
 fn guard_stands(rec: &[u8], column: u8, c: u8) -> bool
     ensures { result ≡ stands column c rec.now }
 {
@@ -24,6 +25,7 @@ fn guard_stands(rec: &[u8], column: u8, c: u8) -> bool
 }
 
 // Whether a pattern of w letters that begins with c may fit a field that begins with b: a letter that stands for itself has to be that byte.
+#[tactic(auto, using(crate::proofs::Turns::plain_first))]
 fn may_fit(c: u8, b: u8, w: usize) -> bool
     ensures { result ≡ false → (1 ≤ w) × (fits c b ≡ false) }
 {
