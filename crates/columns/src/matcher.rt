@@ -34,6 +34,7 @@ fn may_fit(c: u8, b: u8, w: usize) -> bool
 
 impl<'a> Row<'a> {
     // How many of the field's bytes fit the letters of the pattern at p.
+    #[tactic(auto, using(crate::proofs::Turns::run_start, crate::proofs::Turns::run_go, crate::proofs::Turns::run_stop, crate::proofs::Turns::run_end))]
     fn run_of_pattern(&self, p: usize) -> usize
         ensures { result ≡ run (letters_of self.now p) (field_of self.now) }
     {
@@ -49,6 +50,7 @@ impl<'a> Row<'a> {
     }
 
     // Whether all letters of the pattern at p fit the field's bytes. Many fields have one column only.
+    #[tactic(auto, using(crate::proofs::Turns::fits_one, crate::proofs::Turns::run_all))]
     fn fits_pattern(&self, p: usize) -> bool
         ensures { result ≡ fits_all (letters_of self.now p) (field_of self.now) }
     {
@@ -60,6 +62,7 @@ impl<'a> Row<'a> {
 
     // Whether the alternative at p stands and fits the field, of which the first byte is b. Most that do not fit fail at their first letter, so that
     // is looked at before all else.
+    #[tactic(auto, using(crate::proofs::Turns::first_fails, crate::proofs::Turns::pattern_failed))]
     fn fits_alternative(&self, b: u8, p: usize) -> bool
         requires { (p < 33554432) × (b ≡ get_or self.now.rec.now self.now.at 0) }
         ensures { result ≡ alternative_ok (alternative_of self.now p) self.now.rec.now (field_of self.now) }
@@ -72,6 +75,7 @@ impl<'a> Row<'a> {
     }
 
     // Whether one of its alternatives stands and fits the field.
+    #[tactic(auto, using(crate::proofs::Turns::alternatives_start, crate::proofs::Turns::alternatives_go, crate::proofs::Turns::alternatives_found, crate::proofs::Turns::alternatives_end))]
     pub(crate) fn fits(&self) -> bool
         ensures { result ≡ row_ok (row_of self.now) self.now.rec.now }
     {
@@ -99,6 +103,7 @@ impl<'a> Row<'a> {
     }
 
     // The most of the field's bytes that one of its alternatives takes.
+    #[tactic(auto, using(crate::proofs::Turns::longest_start, crate::proofs::Turns::longest_go, crate::proofs::Turns::longest_end))]
     fn longest_run(&self) -> usize
         ensures { result ≡ longest (row_of self.now).alternatives self.now.rec.now (field_of self.now) }
     {
@@ -112,6 +117,7 @@ impl<'a> Row<'a> {
     }
 
     // The first column up to which the field begins nothing that the row allows.
+    #[tactic(auto, using(crate::proofs::Turns::stop_at, crate::proofs::Turns::longest_fits))]
     pub(crate) fn stop(&self) -> usize
         ensures { result ≡ stop_of (row_of self.now) self.now.rec.now }
     {

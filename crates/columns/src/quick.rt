@@ -17,6 +17,7 @@ fn pair_takes(q: &Pairs, i: usize, before: u8, here: u8) -> bool
 }
 
 // Whether one of the four pairs of a column does.
+#[tactic(auto, using(crate::proofs::QuickLaws::four_pairs))]
 fn column_takes(q: &Pairs, c: usize, before: u8, here: u8) -> bool
     requires { c < 132 }
     ensures { result ≡ takes (pairs_at q.now c) before here }
