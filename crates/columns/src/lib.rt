@@ -48,6 +48,7 @@ fn first_wrong(rec: &[u8]) -> Option<Row<'_>>
 
 // The first column of the leftmost field of the record's own layout that holds nothing legal, or 0 where every field holds something
 // legal.
+#[tactic(auto, using(crate::proofs::Turns::said_of), unfolding(crate::specs::Kinds::first_bad_field))]
 pub fn first_bad(rec: &[u8]) -> usize
     ensures { result ≡ first_bad_field rec.now }
 {
@@ -56,6 +57,7 @@ pub fn first_bad(rec: &[u8]) -> usize
 
 // The first column of that field at which no legal content of the field begins with its bytes so far, or 0 where every field holds
 // something legal.
+#[tactic(auto, using(crate::proofs::Turns::said_of), unfolding(crate::specs::Kinds::bad_byte))]
 pub fn bad_byte(rec: &[u8]) -> usize
     ensures { result ≡ bad_byte rec.now }
 {

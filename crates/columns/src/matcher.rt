@@ -126,6 +126,7 @@ impl<'a> Row<'a> {
 }
 
 // The leftmost row of the table that the record does not fit.
+#[tactic(auto, using(crate::proofs::Turns::rows_start, crate::proofs::Turns::rows_go, crate::proofs::Turns::rows_bad, crate::proofs::Turns::rows_end, crate::proofs::Turns::small))]
 pub(crate) fn first_wrong<'a>(table: &'a [u8], rec: &'a [u8]) -> Option<Row<'a>>
     ensures { FirstWrong (decode table.now) rec.now result }
 {
