@@ -1,5 +1,6 @@
 -- The index grows by the lines that are read: one behind the other, from the empty one, up to the whole reading.
 -- Assumes nothing.
+use Rattle.refusals.specs.Table.{Accepted}
 use mathlib.Core.Path.{◌≡◌, refl, ◌∙◌}
 use mathlib.Core.List.{List, [], ◌++◌, map, map-append}
 use Prim.Native.Nat.{ℕ, ◌+◌, ◌≤◌, ◌<◌}
@@ -7,7 +8,6 @@ use native.Mathlib.Omega.{arith}
 use lib.ListN.{length, replicate, length-append, length-map}
 use lib.Seq.{sets}
 use Rattle.slices.proofs.WriteLaws.{sets-append, stored_front}
-use Rattle.refusals.specs.declared.Verdict.TheVariants.{Accepted}
 use Rattle.corrections.specs.declared.lines.Line.{Line}
 use Rattle.corrections.specs.declared.lines.Line.TheVariants.{Heading, TakenOut, PutIn, Stopped}
 use Rattle.corrections.specs.declared.Index.{Index}

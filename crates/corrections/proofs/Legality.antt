@@ -1,11 +1,11 @@
 -- The definition accepts exactly the texts that paper 01 describes.
 -- Assumes nothing.
+use Rattle.refusals.specs.Table.{Accepted}
 use mathlib.Core.Path.{◌≡◌, refl, ap, subst, ◌∙◌}
 use mathlib.Core.List.{List}
 use mathlib.Core.Logic.{◌↔◌}
 use Prim.Native.Nat.{ℕ, ◌≤◌}
 use lib.ListN.{length}
-use Rattle.refusals.specs.declared.Verdict.TheVariants.{Accepted}
 use Rattle.refusals.proofs.VerdictLaws.{never}
 use Rattle.corrections.specs.Reading.{Entry, Reading, refused, said, read_log, index_of}
 use Rattle.corrections.specs.Text.{log_text, LegalLog}

@@ -1,5 +1,6 @@
 -- The text of corrections within the limits is read whole.
 -- Assumes nothing.
+use Rattle.refusals.specs.Table.{Accepted}
 use mathlib.Core.Path.{◌≡◌, refl, sym, ap, ◌∙◌}
 use mathlib.Core.Bool.{false}
 use mathlib.Core.List.{List, [], ◌∷◌, ◌++◌, map, append_assoc}
@@ -9,7 +10,6 @@ use lib.Dec.{eqb-zero-suc}
 use lib.ListN.{length, drop, length-append}
 use lib.Seq.{drop_at}
 use borrow.Author.Tests.{ne_eqb, lt-ltb, le-ltb}
-use Rattle.refusals.specs.declared.Verdict.TheVariants.{Accepted}
 use Rattle.digits.specs.Decimal.{decimal}
 use Rattle.corrections.specs.declared.lines.Line.{Line}
 use Rattle.corrections.specs.declared.lines.Line.TheVariants.{Heading, TakenOut, PutIn}

@@ -1,5 +1,6 @@
 -- One turn of the loop over the lines of a log: what its line says of the offsets and counts, and the reading before and after it.
 -- Assumes nothing.
+use Rattle.std.specs.Prelude.{Ok, Err}
 use mathlib.Core.Path.{◌≡◌, refl, sym, ◌∙◌}
 use mathlib.Core.Bool.{true, false}
 use mathlib.Core.List.{List, []}
@@ -11,10 +12,8 @@ use lib.Seq.{drop-drop}
 use borrow.Author.Tests.{eq-eqb, ne_eqb, eqb-true, eqb-false, ltb-true, lt-ltb, le-ltb}
 use Rattle.slices.proofs.Cases.{split}
 use Rattle.slices.proofs.PartLaws.{one_less}
-use Rattle.refusals.specs.Table.{log_too_long}
+use Rattle.refusals.specs.Table.{log_too_long, Verdict, Accepted, Refused}
 use Rattle.refusals.specs.declared.Refusal.{Refusal}
-use Rattle.refusals.specs.declared.Verdict.{Verdict}
-use Rattle.refusals.specs.declared.Verdict.TheVariants.{Accepted, Refused}
 use Rattle.refusals.proofs.VerdictLaws.{never}
 use Rattle.corrections.specs.declared.lines.Line.{Line}
 use Rattle.corrections.specs.declared.lines.Line.TheVariants.{Heading, TakenOut, PutIn, Stopped}
@@ -106,8 +105,8 @@ few_refused r m = tt
 
 few_before : (v : Verdict) (es : List Entry) (rest : Reading) (w m : ℕ) → (v ≡ Accepted → (length es * 135 ≤ w) × (w ≤ m)) → FewIn rest (m - w)
     → FewIn (before v es rest) m
-few_before Accepted es rest w m h c = few_more es rest w m (h refl).0 (h refl).1 c
-few_before (Refused r) es rest w m h c = few_refused r m
+few_before (Ok _) es rest w m h c = few_more es rest w m (h refl).0 (h refl).1 c
+few_before (Err r) es rest w m h c = few_refused r m
 
 few_none : (n m : ℕ) → FewIn (said n []) m
 unfolding FewIn

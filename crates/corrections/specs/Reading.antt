@@ -1,12 +1,10 @@
 -- What a log says, line by line: its corrections and their lines, or the refusal.
 -- Assumes nothing.
-use Rattle.std.specs.Prelude.{ℕ, zero, suc, ◌+◌, ◌-◌, cond, List, [], ◌∷◌, ◌++◌, map, eqb, ltb, length, drop}
+use Rattle.std.specs.Prelude.{ℕ, zero, suc, ◌+◌, ◌-◌, cond, List, [], ◌∷◌, ◌++◌, map, eqb, ltb, length, drop, Ok, Err}
 use Rattle.std.proofs.lemmas.List.Edits.{sets}
 use Rattle.slices.specs.Part.{padded}
-use Rattle.refusals.specs.Table.{log_line, log_too_long, too_many_corrections, no_room}
+use Rattle.refusals.specs.Table.{log_line, log_too_long, too_many_corrections, no_room, Verdict, Accepted, Refused}
 use Rattle.refusals.specs.declared.Refusal.{Refusal}
-use Rattle.refusals.specs.declared.Verdict.{Verdict}
-use Rattle.refusals.specs.declared.Verdict.TheVariants.{Accepted, Refused}
 use Rattle.corrections.specs.declared.lines.Line.{Line}
 use Rattle.corrections.specs.declared.lines.Line.TheVariants.{Heading, TakenOut, PutIn, Stopped}
 use Rattle.corrections.specs.declared.Index.{Index}
@@ -76,8 +74,8 @@ with_entries es (refused r) = refused r
 with_entries es (said n fs) = said n (es ++ fs)
 
 abbrev pub before : Verdict → List Entry → Reading → Reading
-before Accepted es rest = with_entries es rest
-before (Refused r) es rest = refused r
+before (Ok _) es rest = with_entries es rest
+before (Err r) es rest = refused r
 
 -- what is left of the log, which begins at an offset, by at most so many lines
 unfoldable pub read : (most line begun room at : ℕ) → List ℕ → Reading

@@ -51,7 +51,7 @@ pub fn refused_by(refusal: Refusal) -> Index
     ensures { result ≡ index_of (refused refusal) }
 {
     Index {
-        verdict: Verdict::Refused(refusal),
+        verdict: Err(refusal),
         corrections: 0,
         count: 0,
         kind: [0u8; MOST_CHANGES],
@@ -95,18 +95,18 @@ fn judge_line(line: Line, number: usize, begun: usize, room: usize) -> Verdict
     match line {
         Line::Heading => {
             if begun < MOST_CORRECTIONS {
-                return Verdict::Accepted;
+                return Ok(());
             }
-            Verdict::Refused(Refusal::too_many_corrections(number))
+            Err(Refusal::too_many_corrections(number))
         }
-        Line::TakenOut => Verdict::Accepted,
+        Line::TakenOut => Ok(()),
         Line::PutIn => {
             if room == 0 {
-                return Verdict::Refused(Refusal::no_room(number));
+                return Err(Refusal::no_room(number));
             }
-            Verdict::Accepted
+            Ok(())
         }
-        Line::Stopped(column) => Verdict::Refused(Refusal::log_line(number, column)),
+        Line::Stopped(column) => Err(Refusal::log_line(number, column)),
     }
 }
 
@@ -212,8 +212,8 @@ pub fn index_of(log: &[u8], frozen: usize) -> Index
         let line = lines::line_at(log, at, begun);
         let verdict = judge_line(line, number, begun, room);
         match verdict {
-            Verdict::Accepted => {}
-            Verdict::Refused(r) => {
+            Ok(()) => {}
+            Err(r) => {
                 return refused_by(r);
             }
         }
@@ -233,7 +233,7 @@ pub fn index_of(log: &[u8], frozen: usize) -> Index
         number += 1;
     }
     Index {
-        verdict: Verdict::Accepted,
+        verdict: Ok(()),
         corrections: begun,
         count: count,
         kind: kind,

@@ -13,10 +13,8 @@ use Rattle.slices.proofs.PartLaws.{part_all}
 use Rattle.columns.specs.Kinds.{kind_of}
 use Rattle.columns.specs.declared.Kind.{Kind}
 use Rattle.columns.specs.declared.Kind.TheVariants as kind
-use Rattle.refusals.specs.Table.{cut_short, buffer_too_short}
+use Rattle.refusals.specs.Table.{cut_short, buffer_too_short, Verdict, Accepted, Refused}
 use Rattle.refusals.specs.declared.Refusal.{Refusal}
-use Rattle.refusals.specs.declared.Verdict.{Verdict}
-use Rattle.refusals.specs.declared.Verdict.TheVariants.{Accepted, Refused}
 use Rattle.leg.specs.Judge.{stage, judged, judged_parts}
 use Rattle.parts.specs.Record.{size_column, columns_of, alone, refused_reading, leg_reading, continuation_reading, reading_by_kind, reading_of, writing, written_by, written}
 use Rattle.parts.specs.declared.Reading.{Reading}

@@ -1,5 +1,6 @@
 -- What the customer must believe of one record alone, read and written.
 -- Assumes nothing.
+use Rattle.std.specs.Prelude.{Ok, Err}
 use mathlib.Core.Path.{◌≡◌, refl, sym, ap, subst, ◌∙◌}
 use mathlib.Core.Bool.{cond}
 use mathlib.Core.Logic.{◌↔◌, inl, inr}
@@ -19,10 +20,8 @@ use Rattle.columns.specs.Kinds.{kind_of}
 use Rattle.columns.specs.declared.Kind.{Kind}
 use Rattle.columns.specs.declared.Kind.TheVariants as kind
 use Rattle.columns.proofs.Content.{primary_kind, continuation_kind}
-use Rattle.refusals.specs.Table.{cut_short}
+use Rattle.refusals.specs.Table.{cut_short, Verdict, Accepted, Refused}
 use Rattle.refusals.specs.declared.Refusal.{Refusal}
-use Rattle.refusals.specs.declared.Verdict.{Verdict}
-use Rattle.refusals.specs.declared.Verdict.TheVariants.{Accepted, Refused}
 use Rattle.leg.specs.Judge.{judged}
 use Rattle.leg.specs.Legal.{LegalLeg, Legal}
 use Rattle.leg.proofs.Legality.{accepted_iff, parts_accepted_iff, stage_iff}
@@ -191,8 +190,8 @@ reading_verdict s = by (alone s)
     kinds kind.Continuation rec = refl
 
     by : (v : Verdict) → (reading_by v (columns_of s)).verdict ≡ v
-    by Accepted = kinds (kind_of (columns_of s)) (columns_of s)
-    by (Refused r) = refl
+    by (Ok _) = kinds (kind_of (columns_of s)) (columns_of s)
+    by (Err r) = refl
 
 -- a slice is read exactly when it is a legal record and its line feed
 pub reading_iff : (s : List ℕ) → ((reading_of s).verdict ≡ Accepted) ↔ ((rec : List ℕ) × Alone rec s × Legal rec)

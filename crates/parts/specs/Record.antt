@@ -1,13 +1,11 @@
 -- One record alone, read and written: the answers, and every byte of a lent buffer.
 -- Assumes nothing.
-use Rattle.std.specs.Prelude.{ℕ, ◌+◌, ◌-◌, ◌≡◌, cond, List, ◌∷◌, ◌++◌, eqb, ltb, length, get_or, take, replicate}
+use Rattle.std.specs.Prelude.{ℕ, ◌+◌, ◌-◌, ◌≡◌, cond, List, ◌∷◌, ◌++◌, eqb, ltb, length, get_or, take, replicate, Ok, Err}
 use Rattle.columns.specs.Kinds.{kind_of}
 use Rattle.columns.specs.declared.Kind.{Kind}
 use Rattle.columns.specs.declared.Kind.TheVariants as kind
-use Rattle.refusals.specs.Table.{cut_short, buffer_too_short}
+use Rattle.refusals.specs.Table.{cut_short, buffer_too_short, Verdict, Accepted, Refused}
 use Rattle.refusals.specs.declared.Refusal.{Refusal}
-use Rattle.refusals.specs.declared.Verdict.{Verdict}
-use Rattle.refusals.specs.declared.Verdict.TheVariants.{Accepted, Refused}
 use Rattle.leg.specs.Judge.{stage, judged, judged_parts}
 use Rattle.fields.specs.Leg.{leg_of, render_leg}
 use Rattle.fields.specs.Continuation.{continuation_of, content_of, render_continuation}
@@ -47,8 +45,8 @@ reading_by_kind kind.Primary rec = leg_reading rec
 reading_by_kind kind.Continuation rec = continuation_reading rec
 
 abbrev pub reading_by : Verdict → List ℕ → Reading
-reading_by Accepted rec = reading_by_kind (kind_of rec) rec
-reading_by (Refused r) rec = refused_reading r
+reading_by (Ok _) rec = reading_by_kind (kind_of rec) rec
+reading_by (Err r) rec = refused_reading r
 
 unfoldable pub reading_of : List ℕ → Reading
 reading_of s = reading_by (alone s) (columns_of s)
@@ -59,8 +57,8 @@ writing n rec = cond (ltb n 133) (Refused buffer_too_short) (judged_parts 0 rec)
 
 -- the record with its line feed and zeros past it, or only zeros
 unfoldable pub written_by : Verdict → ℕ → List ℕ → List ℕ
-written_by Accepted n rec = rec ++ (10 ∷ replicate (n - 133) 0)
-written_by (Refused r) n rec = replicate n 0
+written_by (Ok _) n rec = rec ++ (10 ∷ replicate (n - 133) 0)
+written_by (Err r) n rec = replicate n 0
 
 abbrev pub written : ℕ → List ℕ → List ℕ
 written n rec = written_by (writing n rec) n rec

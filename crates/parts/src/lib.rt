@@ -4,7 +4,7 @@
 
 ghost use Rattle.std.specs.Prelude.{◌≡◌, length, replicate};
 ghost use Rattle.columns.specs.Kinds.{kind_of};
-ghost use Rattle.refusals.specs.declared.Verdict.TheVariants.{Refused};
+ghost use Rattle.refusals.specs.Table.{Refused};
 ghost use Rattle.fields.specs.Leg.{render_leg};
 ghost use Rattle.fields.specs.Continuation.{render_continuation};
 ghost use Rattle.parts.specs.Record.{size_column, leg_reading, continuation_reading, refused_reading, reading_by_kind, reading_of, RecordLeft};
@@ -50,7 +50,7 @@ fn refused(r: Refusal) -> Reading
     ensures { result ≡ refused_reading r }
 {
     Reading {
-        verdict: Verdict::Refused(r),
+        verdict: Err(r),
         parts: Parts::Nothing,
         content: [0u8; 83],
     }
@@ -61,7 +61,7 @@ fn leg_reading(rec: &[u8]) -> Reading
     ensures { result ≡ leg_reading rec.now }
 {
     Reading {
-        verdict: Verdict::Accepted,
+        verdict: Ok(()),
         parts: Parts::Leg(Leg::of(rec)),
         content: [0u8; 83],
     }
@@ -72,7 +72,7 @@ fn continuation_reading(rec: &[u8]) -> Reading
     ensures { result ≡ continuation_reading rec.now }
 {
     Reading {
-        verdict: Verdict::Accepted,
+        verdict: Ok(()),
         parts: Parts::Continuation(Continuation::of(rec)),
         content: content_of(rec),
     }
@@ -99,8 +99,8 @@ pub fn read(s: &[u8]) -> Reading
     let rec = &s[..132];
     let verdict = leg::judge(rec, 1);
     match verdict {
-        Verdict::Accepted => reading_of(rec),
-        Verdict::Refused(r) => refused(r),
+        Ok(()) => reading_of(rec),
+        Err(r) => refused(r),
     }
 }
 
@@ -109,7 +109,7 @@ fn refuse(r: Refusal, out: &mut [u8]) -> Verdict
     ensures { (result ≡ Refused r) × (out.new ≡ replicate (length out.old) 0) }
 {
     slices::clear_from(&mut *out, 0);
-    Verdict::Refused(r)
+    Err(r)
 }
 
 // Writes a record that was put together, with its line feed and zeros past it: 14 where fewer than 133 bytes are lent, then 3, 4, 5, at
@@ -122,13 +122,13 @@ fn finish(rec: [u8; 132], out: &mut [u8]) -> Verdict
     }
     let verdict = leg::judge_parts(&rec, 0);
     match verdict {
-        Verdict::Accepted => {
+        Ok(()) => {
             slices::copy(&rec, 0, &mut *out, 0, 132);
             slices::put_after(&mut *out, 132, 0, 10);
             slices::clear_from(&mut *out, 133);
-            Verdict::Accepted
+            Ok(())
         }
-        Verdict::Refused(r) => refuse(r, &mut *out),
+        Err(r) => refuse(r, &mut *out),
     }
 }
 

@@ -11,8 +11,8 @@ use lib.ListN.{get_or, length, get_or-eq_default}
 use borrow.Author.Tests.{ltb-true, ltb-false, eq-eqb, ne_eqb, leb-true, leb-false, le-leb, lt-leb}
 use Rattle.slices.specs.Part.{part, blank, member}
 use Rattle.slices.specs.Order.{order, equal}
-use Rattle.slices.specs.declared.Ordering.{Ordering}
-use Rattle.slices.specs.declared.Ordering.TheVariants.{Less, Equal, Greater}
+use Rattle.std.specs.declared.cmp.Ordering.{Ordering}
+use Rattle.std.specs.declared.cmp.Ordering.TheVariants.{Less, Equal, Greater}
 use Rattle.slices.proofs.Cases.{split, and_left, and_right}
 use Rattle.slices.proofs.PartLaws.{part_next, part_done, part_whole, part_append, length_part}
 use Rattle.slices.proofs.OrderLaws.{order_less, order_greater, order_level, order_refl, order_append, equal_append, equal_one, equal_iff}

@@ -5,20 +5,15 @@
 
 mod words;
 
+ghost use Rattle.std.specs.declared.cmp.Ordering.TheVariants.{Less, Greater};
 ghost use Rattle.std.specs.Prelude.{◌≡◌, cond, ◌++◌, ◌+◌, ◌-◌, ◌≤◌, min, get_or, length, set, take, drop, replicate, leb, ltb};
 ghost use Rattle.std.proofs.lemmas.List.Edits.{sets};
 ghost use Rattle.slices.specs.Part.{part, blank, member};
 ghost use Rattle.slices.specs.Order.{order, equal};
 ghost use Rattle.slices.specs.Search.{first_at, is_line_feed};
 
+use std::cmp::Ordering;
 use words::same_word;
-
-#[derive(Clone, Copy)]
-pub enum Ordering {
-    Less,
-    Equal,
-    Greater,
-}
 
 // The lesser of two numbers.
 pub fn least(a: usize, b: usize) -> usize
@@ -86,7 +81,7 @@ pub fn compare(a: &[u8], i: usize, b: &[u8], j: usize, n: usize) -> Ordering
 
 // How a byte stands to another that is not the same.
 fn way(x: u8, y: u8) -> Ordering
-    ensures { result ≡ cond (ltb x y) Ordering.Less Ordering.Greater }
+    ensures { result ≡ cond (ltb x y) Less Greater }
 {
     if x < y {
         Ordering::Less

@@ -15,15 +15,15 @@ loop-at-init c = (kept_start _ (search rules) index_start, reading_start _ _ (se
 pub line_at-line-requires : goal.line_at-line-requires
 line_at-line-requires c = let inv = c.loop-at.invariant in (omega (arith, inv.0.size, inv.0.inside), inv.0.begun)
 
-pub returns-in-Refused : goal.returns-in-Refused
-returns-in-Refused c = let inv = c.loop-at.invariant in
+pub returns-in-Err : goal.returns-in-Err
+returns-in-Err c = let inv = c.loop-at.invariant in
     reading_stop _ _ _ _ _ c.loop-at-test.true inv.0.counted c.line_at-line.ensures
-    c.judge_line-verdict.ensures c.in-Refused.is c.refused_by-in-Refused.ensures
+    c.judge_line-verdict.ensures c.in-Err.is c.refused_by-in-Err.ensures
     ∙ sym inv.1
 
 pub store_line-requires : goal.store_line-requires
 store_line-requires c = let inv = c.loop-at.invariant in
-    let line = advances _ _ _ _ _ c.line_at-line.ensures c.judge_line-verdict.ensures c.in-Accepted.is in
+    let line = advances _ _ _ _ _ c.line_at-line.ensures c.judge_line-verdict.ensures c.in-Ok.is in
     (kept_room inv.0 line, inv.0.begun, omega (arith, inv.0.size, inv.0.inside))
 
 pub count_after-count-requires : goal.count_after-count-requires
@@ -35,7 +35,7 @@ width-at-requires c = c.loop-at.invariant.0.begun
 
 pub overflow_add-at : goal.overflow_add-at
 overflow_add-at c = let inv = c.loop-at.invariant in
-    let line = advances _ _ _ _ _ c.line_at-line.ensures c.judge_line-verdict.ensures c.in-Accepted.is in
+    let line = advances _ _ _ _ _ c.line_at-line.ensures c.judge_line-verdict.ensures c.in-Ok.is in
     omega (arith, kept_sum inv.0 line c.width-at.ensures)
 
 pub begun_after-begun-requires : goal.begun_after-begun-requires
@@ -47,19 +47,19 @@ overflow_add-number c = let inv = c.loop-at.invariant in
 
 pub loop-at-smaller : goal.loop-at-smaller
 loop-at-smaller c = let inv = c.loop-at.invariant in
-    let line = advances _ _ _ _ _ c.line_at-line.ensures c.judge_line-verdict.ensures c.in-Accepted.is in
+    let line = advances _ _ _ _ _ c.line_at-line.ensures c.judge_line-verdict.ensures c.in-Ok.is in
     kept_less inv.0 line c.width-at.ensures
 
 pub loop-at-preserved : goal.loop-at-preserved
 loop-at-preserved c = let inv = c.loop-at.invariant in
-    let line = advances _ _ _ _ _ c.line_at-line.ensures c.judge_line-verdict.ensures c.in-Accepted.is in
+    let line = advances _ _ _ _ _ c.line_at-line.ensures c.judge_line-verdict.ensures c.in-Ok.is in
     let more =
     grown_by _ _ c.loop-at.at _ _ _ c.line_at-line.result c.begun_after-begun.ensures
     c.count_after-count.ensures c.store_line.ensures in (
       kept_next inv.0 line more c.width-at.ensures,
       inv.1
           ∙ reading_next _ _ _ _ _ c.loop-at-test.true inv.0.counted c.line_at-line.ensures
-          c.judge_line-verdict.ensures c.in-Accepted.is more c.room_after-room.ensures c.width-at.ensures,
+          c.judge_line-verdict.ensures c.in-Ok.is more c.room_after-room.ensures c.width-at.ensures,
     )
 
 pub returns : goal.returns

@@ -1,7 +1,7 @@
 -- By the line. Assumes nothing.
+use Rattle.refusals.specs.Table.{Refused}
 use mathlib.Core.Path.{ap}
 use borrow.Author.Tests.{lt-ltb, le-ltb, eq-eqb, ne_eqb}
-use Rattle.refusals.specs.declared.Verdict.TheVariants.{Refused}
 use Rattle.corrections.proofs.judge_line.Goals as goal
 
 pub returns-then-begun-lt-MOST_CORRECTIONS : goal.returns-then-begun-lt-MOST_CORRECTIONS

@@ -11,8 +11,8 @@ returns-then-column-ne0 c = answer_cut _ c.size_column-column.ensures c.if-colum
 pub slice_bounds-rec-end : goal.slice_bounds-rec-end
 slice_bounds-rec-end c = columns_count _ c.size_column-column.ensures c.if-column-ne0.false
 
-pub returns-in-Accepted : goal.returns-in-Accepted
-returns-in-Accepted c = answer_accepted _ c.size_column-column.ensures c.if-column-ne0.false c.judge-verdict.ensures c.in-Accepted.is c.reading_of.ensures
+pub returns-in-Ok : goal.returns-in-Ok
+returns-in-Ok c = answer_accepted _ c.size_column-column.ensures c.if-column-ne0.false c.judge-verdict.ensures c.in-Ok.is c.reading_of.ensures
 
-pub returns-in-Refused : goal.returns-in-Refused
-returns-in-Refused c = answer_refused _ c.size_column-column.ensures c.if-column-ne0.false c.judge-verdict.ensures c.in-Refused.is c.refused-in-Refused.ensures
+pub returns-in-Err : goal.returns-in-Err
+returns-in-Err c = answer_refused _ c.size_column-column.ensures c.if-column-ne0.false c.judge-verdict.ensures c.in-Err.is c.refused-in-Err.ensures
