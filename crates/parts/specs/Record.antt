@@ -1,6 +1,6 @@
 -- One record alone, read and written: the answers, and every byte of a lent buffer.
 -- Assumes nothing.
-use Rattle.std.specs.Prelude.{ℕ, ◌+◌, ◌-◌, ◌≡◌, cond, List, ◌∷◌, ◌++◌, eqb, ltb, length, get_or, take, replicate, Ok, Err}
+use Rattle.std.specs.Prelude.{ℕ, ◌+◌, ◌-◌, ◌≡◌, cond, List, ◌∷◌, ◌++◌, eqb, ltb, length, get_or, take, replicate, Result, Ok, Err}
 use Rattle.columns.specs.Kinds.{kind_of}
 use Rattle.columns.specs.declared.Kind.{Kind}
 use Rattle.columns.specs.declared.Kind.TheVariants as kind
@@ -11,8 +11,8 @@ use Rattle.fields.specs.Leg.{leg_of, render_leg}
 use Rattle.fields.specs.Continuation.{continuation_of, content_of, render_continuation}
 use Rattle.fields.specs.declared.primary.Leg.{Leg}
 use Rattle.fields.specs.declared.continuation.Continuation.{Continuation}
+use Rattle.parts.specs.declared.Parts.{Parts}
 use Rattle.parts.specs.declared.Parts.TheVariants as parts
-use Rattle.parts.specs.declared.Reading.{Reading}
 
 -- "One record read alone is 133 bytes, place 1; a longer one gives 1 at column 134, if byte 133 is a line feed": the column of refusal 1,
 -- or 0
@@ -30,26 +30,26 @@ columns_of s = take 132 s
 unfoldable pub alone : List ℕ → Verdict
 alone s = stage (size_column s) (cut_short 1) (judged 1 (columns_of s))
 
--- what means nothing in an answer is 0
-unfoldable pub refused_reading : Refusal → Reading
-refused_reading r = record { verdict = Refused r; parts = parts.Nothing; content = replicate 83 0 }
+-- an answer of reading: parts, or a refusal and nothing beside it
+abbrev pub Reading : Type 0
+Reading = Result Parts Refusal
 
-unfoldable pub leg_reading : List ℕ → Reading
-leg_reading rec = record { verdict = Accepted; parts = parts.Leg (leg_of rec); content = replicate 83 0 }
-
-unfoldable pub continuation_reading : List ℕ → Reading
-continuation_reading rec = record { verdict = Accepted; parts = parts.Continuation (continuation_of rec); content = content_of rec }
-
-abbrev pub reading_by_kind : Kind → List ℕ → Reading
-reading_by_kind kind.Primary rec = leg_reading rec
-reading_by_kind kind.Continuation rec = continuation_reading rec
+-- what a legal record says
+abbrev pub parts_by_kind : Kind → List ℕ → Parts
+parts_by_kind kind.Primary rec = parts.Leg (leg_of rec)
+parts_by_kind kind.Continuation rec = parts.Continuation (continuation_of rec) (content_of rec)
 
 abbrev pub reading_by : Verdict → List ℕ → Reading
-reading_by (Ok _) rec = reading_by_kind (kind_of rec) rec
-reading_by (Err r) rec = refused_reading r
+reading_by (Ok _) rec = Ok (parts_by_kind (kind_of rec) rec)
+reading_by (Err r) rec = Err r
 
 unfoldable pub reading_of : List ℕ → Reading
 reading_of s = reading_by (alone s) (columns_of s)
+
+-- the verdict in an answer
+abbrev pub verdict_of : Reading → Verdict
+verdict_of (Ok p) = Accepted
+verdict_of (Err r) = Refused r
 
 -- 14, then 3, 4, 5 of the record that the parts make, 3 at the first column of the field; n bytes are lent
 unfoldable pub writing : ℕ → List ℕ → Verdict

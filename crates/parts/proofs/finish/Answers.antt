@@ -11,9 +11,9 @@ returns-then-out-lt133 c = let r = c.refuse.ensures in
 
 pub returns-in-Ok : goal.returns-in-Ok
 returns-in-Ok c = let room = c.if-out-lt133.false in
-    finish_accepted _ _ room c.judge_parts-verdict.ensures c.in-Ok.is
+    finish_accepted _ _ room c.judge_parts.ensures c.in-Ok.is
     (with_feed c.args.rec _ (search rules) room _ _ c.copy.ensures c.put_after.ensures c.clear_from.ensures)
 
 pub returns-in-Err : goal.returns-in-Err
 returns-in-Err c = let r = c.refuse-in-Err.ensures in
-    finish_refused _ _ c.if-out-lt133.false c.judge_parts-verdict.ensures c.in-Err.is r.0 r.1
+    finish_refused _ _ c.if-out-lt133.false c.judge_parts.ensures c.in-Err.is r.0 r.1

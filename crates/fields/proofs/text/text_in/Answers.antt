@@ -1,6 +1,6 @@
 -- Each field is read from its own columns. Assumes nothing.
 use Rattle.fields.specs.Text.{text_of}
-use Rattle.fields.proofs.text.Text.of.Goals as goal
+use Rattle.fields.proofs.text.text_in.Goals as goal
 
 pub returns : goal.returns
 unfolding text_of

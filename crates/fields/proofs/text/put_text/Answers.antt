@@ -1,7 +1,7 @@
 -- What is put is the bytes of the part. Assumes nothing.
 use Rattle.fields.specs.Text.{bytes_of}
 use Rattle.fields.proofs.PutLaws.{text_fits, text_unfit}
-use Rattle.fields.proofs.text.Text.put.Goals as goal
+use Rattle.fields.proofs.text.put_text.Goals as goal
 
 pub returns-then-is_blank : goal.returns-then-is_blank
 unfolding bytes_of
