@@ -1,5 +1,6 @@
 -- Laws of the answers: what the code has of a pick, of a new file and of a log's verdict is what the definitions say.
 -- Assumes nothing.
+use Rattle.refusals.specs.Table.{Verdict, Accepted, Refused}
 use mathlib.Core.Path.{◌≡◌, refl, sym, ap, subst, ◌∙◌}
 use mathlib.Core.List.{List, [], ◌∷◌, ◌++◌, map}
 use Prim.Native.Nat.{ℕ, ◌-◌, ◌*◌, ◌≤◌}
@@ -11,8 +12,6 @@ use Rattle.slices.specs.Part.{padded}
 use Rattle.refusals.proofs.VerdictLaws.{never, same_refusal}
 use Rattle.columns.specs.Patterns.{codes}
 use Rattle.refusals.specs.declared.Refusal.{Refusal}
-use Rattle.refusals.specs.declared.Verdict.{Verdict}
-use Rattle.refusals.specs.declared.Verdict.TheVariants.{Accepted, Refused}
 use Rattle.wanted.specs.Numbers.{numbers_in, wanted_as, wanted_of}
 use Rattle.wanted.specs.declared.Wanted.{Wanted}
 use Rattle.routes.specs.Legal.{lines}

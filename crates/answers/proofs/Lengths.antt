@@ -1,5 +1,7 @@
 -- How long the answers are: each fits in what has to be lent for it, so one that is written is whole; and where too little is lent there is none.
 -- Assumes nothing.
+use Rattle.std.specs.Prelude.{Ok, Err}
+use Rattle.refusals.specs.Table.{Verdict, Accepted, Refused}
 use mathlib.Core.Path.{◌≡◌, refl, sym, ap, subst}
 use mathlib.Core.List.{List, [], ◌∷◌, ◌++◌, map}
 use Prim.Native.Nat.{ℕ, zero, suc, ◌+◌, ◌-◌, ◌*◌, ◌≤◌, ◌<◌}
@@ -11,8 +13,6 @@ use lib.Dec.{eqb, ltb}
 use Rattle.slices.proofs.Cases.{split}
 use Rattle.slices.proofs.PartLaws.{length_part}
 use Rattle.refusals.proofs.VerdictLaws.{never}
-use Rattle.refusals.specs.declared.Verdict.{Verdict}
-use Rattle.refusals.specs.declared.Verdict.TheVariants.{Accepted, Refused}
 use Rattle.digits.specs.Decimal.{decimal}
 use Rattle.digits.proofs.DecimalLaws.{decimal_width, width_below_1000}
 use Rattle.columns.specs.Patterns.{codes}
@@ -145,8 +145,8 @@ check_fits f l = by (log_verdict f l)
     ok = count_line (codes "ok") (length (records f)) (correction_count (read_log l (length (records f))))
 
     by : (v : Verdict) → length (verdict_text v ok) ≤ 66
-    by Accepted = omega (arith, any_counts (codes "ok") (length (records f)) (correction_count (read_log l (length (records f)))), length_ok)
-    by (Refused r) = no_length r
+    by (Ok _) = omega (arith, any_counts (codes "ok") (length (records f)) (correction_count (read_log l (length (records f)))), length_ok)
+    by (Err r) = no_length r
 
 -- Why a correction is taken is written in at most 43 bytes.
 length-reason_line : (n m : ℕ) (rec : List ℕ) → n < 1000 → m < 1000 → length (reason_line n m rec) ≤ 43

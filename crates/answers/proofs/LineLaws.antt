@@ -1,5 +1,6 @@
 -- Laws of the lines: put together from their pieces, and one line for each correction that is taken.
 -- Assumes nothing.
+use Rattle.refusals.specs.Table.{Accepted, Refused}
 use mathlib.Core.Path.{◌≡◌, refl, sym, ap, subst, ◌∙◌}
 use mathlib.Core.List.{List, [], ◌∷◌, ◌++◌, append-nil, append_assoc}
 use Prim.Native.Nat.{ℕ, suc, ◌+◌, ◌<◌}
@@ -8,7 +9,6 @@ use lib.ListN.{length, get_or, take}
 use lib.Seq.{take-suc}
 use Rattle.columns.specs.Patterns.{codes}
 use Rattle.refusals.specs.declared.Refusal.{Refusal}
-use Rattle.refusals.specs.declared.Verdict.TheVariants.{Accepted, Refused}
 use Rattle.selection.specs.declared.Picked.{Picked}
 use Rattle.answers.specs.Answers.{no_line, count_line, take_line, take_lines, picked_text, tabbed}
 use Rattle.answers.specs.Written.{Wrote}

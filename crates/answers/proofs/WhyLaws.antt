@@ -1,5 +1,6 @@
 -- Laws of the lines of `why`: put together from their pieces, and what the code has of them is what the definitions say.
 -- Assumes nothing.
+use Rattle.refusals.specs.Table.{Verdict, Accepted, Refused}
 use mathlib.Core.Path.{◌≡◌, refl, sym, ap, ap₂, subst, ◌∙◌}
 use mathlib.Core.Bool.{Bool, true, false, cond, ◌&&◌}
 use mathlib.Core.List.{List, [], ◌∷◌, ◌++◌, map, append-nil, append_assoc}
@@ -15,8 +16,6 @@ use Rattle.slices.proofs.Cases.{and_left, and_right}
 use Rattle.slices.proofs.PartLaws.{length_part}
 use Rattle.columns.specs.Patterns.{codes}
 use Rattle.refusals.specs.declared.Refusal.{Refusal}
-use Rattle.refusals.specs.declared.Verdict.{Verdict}
-use Rattle.refusals.specs.declared.Verdict.TheVariants.{Accepted, Refused}
 use Rattle.routes.specs.Places.{key_of}
 use Rattle.routes.specs.Sources.{record_within, record_at, first_of_log, in_use}
 use Rattle.routes.specs.declared.Sources.{Sources}

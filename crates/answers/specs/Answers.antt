@@ -1,13 +1,11 @@
 -- What the programs print, byte for byte.
 -- Assumes nothing.
-use Rattle.std.specs.Prelude.{ℕ, ◌≡◌, cond, List, [], ◌∷◌, ◌++◌, ltb, length, take, replicate}
+use Rattle.std.specs.Prelude.{ℕ, ◌≡◌, cond, List, [], ◌∷◌, ◌++◌, ltb, length, take, replicate, Ok, Err}
 use Rattle.slices.specs.Part.{padded}
 use Rattle.digits.specs.Decimal.{decimal}
 use Rattle.columns.specs.Patterns.{codes}
-use Rattle.refusals.specs.Table.{buffer_too_short}
+use Rattle.refusals.specs.Table.{buffer_too_short, Verdict, Accepted, Refused}
 use Rattle.refusals.specs.declared.Refusal.{Refusal}
-use Rattle.refusals.specs.declared.Verdict.{Verdict}
-use Rattle.refusals.specs.declared.Verdict.TheVariants.{Accepted, Refused}
 use Rattle.corrections.specs.Reading.{Reading, refused, said, read_log}
 use Rattle.routes.specs.Sources.{records}
 use Rattle.wanted.specs.Numbers.{numbers_in}
@@ -50,8 +48,8 @@ file_text frozen log (refused_by r) = no_line r
 file_text frozen log (picked taken sources) = new_bytes frozen log (picked taken sources)
 
 abbrev pub verdict_text : Verdict → (accepted : List ℕ) → List ℕ
-verdict_text Accepted bytes = bytes
-verdict_text (Refused r) bytes = no_line r
+verdict_text (Ok _) bytes = bytes
+verdict_text (Err r) bytes = no_line r
 
 -- how many corrections a log has
 abbrev pub correction_count : Reading → ℕ

@@ -1,10 +1,9 @@
 -- What `why` prints, byte for byte: a line for each correction taken; or a refusal's line, and what more is known of it.
 -- Assumes nothing.
-use Rattle.std.specs.Prelude.{ℕ, zero, suc, ◌-◌, ◌*◌, cond, ◌&&◌, List, [], ◌∷◌, ◌++◌, eqb, leb, ltb, get_or, take, drop}
+use Rattle.refusals.specs.Table.{Verdict}
+use Rattle.std.specs.Prelude.{ℕ, zero, suc, ◌-◌, ◌*◌, cond, ◌&&◌, List, [], ◌∷◌, ◌++◌, eqb, leb, ltb, get_or, take, drop, Ok, Err}
 use Rattle.columns.specs.Patterns.{codes}
 use Rattle.refusals.specs.declared.Refusal.{Refusal}
-use Rattle.refusals.specs.declared.Verdict.{Verdict}
-use Rattle.refusals.specs.declared.Verdict.TheVariants.{Accepted, Refused}
 use Rattle.routes.specs.Places.{key_of}
 use Rattle.routes.specs.Sources.{record_at}
 use Rattle.applying.specs.Correct.{Outcome, stopped, reached}
@@ -79,8 +78,8 @@ module _ (frozen log : List ℕ) where
       explained_lines e n ++ reason_line (get_or e.taken n 0) (get_or e.relying n 0) (record_at frozen log (get_or e.source n 0))
 
   abbrev pub by_verdict : Verdict → Explained → List ℕ
-  by_verdict Accepted e = explained_lines e e.count
-  by_verdict (Refused r) e = no_line r ++ more_text frozen log r e.failure
+  by_verdict (Ok _) e = explained_lines e e.count
+  by_verdict (Err r) e = no_line r ++ more_text frozen log r e.failure
 
   unfoldable pub explained_text : Explained → List ℕ
   explained_text e = by_verdict e.failure.verdict e

@@ -50,7 +50,7 @@ fn too_short(out: &mut [u8]) -> Answer
     slices::clear(&mut *out);
     let refusal = Refusal::buffer_too_short();
     Answer {
-        verdict: Verdict::Refused(refusal),
+        verdict: Err(refusal),
         length: 0,
     }
 }
@@ -60,7 +60,7 @@ fn written(length: usize) -> Answer
     ensures { result ≡ whole_answer length }
 {
     Answer {
-        verdict: Verdict::Accepted,
+        verdict: Ok(()),
         length,
     }
 }
@@ -94,8 +94,8 @@ pub fn newfile_answer<'a>(frozen: &'a [u8], log: &'a [u8], want: &[u8], out: &mu
     let verdict = picked.verdict;
     let records = picked.records;
     match verdict {
-        Verdict::Accepted => written(records.count * LINE_WIDTH),
-        Verdict::Refused(r) => written(put_no(r, &mut *out)),
+        Ok(()) => written(records.count * LINE_WIDTH),
+        Err(r) => written(put_no(r, &mut *out)),
     }
 }
 
@@ -109,13 +109,13 @@ pub fn check_answer<'a>(frozen: &'a [u8], log: &'a [u8], out: &mut [u8]) -> Answ
     slices::clear(&mut *out);
     let verdict = selection::check_log(frozen, log);
     match verdict {
-        Verdict::Accepted => {
+        Ok(()) => {
             let sources = routes::sources_of(frozen);
             let records = sources.count;
             let index = corrections::index_of(log, records);
             written(put_counts(b"ok", records, index.corrections, &mut *out))
         }
-        Verdict::Refused(r) => written(put_no(r, &mut *out)),
+        Err(r) => written(put_no(r, &mut *out)),
     }
 }
 

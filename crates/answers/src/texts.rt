@@ -63,10 +63,10 @@ pub(crate) fn put_picked(picked: Picked, out: &mut [u8]) -> usize
     let verdict = picked.verdict;
     let records = picked.records;
     match verdict {
-        Verdict::Accepted => {
+        Ok(()) => {
             let end = put_counts(b"pick", picked.count, records.count, out);
             put_taken(picked, out, end)
         }
-        Verdict::Refused(r) => put_no(r, out),
+        Err(r) => put_no(r, out),
     }
 }

@@ -151,8 +151,8 @@ pub(crate) fn put_explained<'a>(
     let failure = explained.failure;
     let verdict = failure.verdict;
     match verdict {
-        Verdict::Accepted => put_reasons(frozen, log, explained, out),
-        Verdict::Refused(r) => {
+        Ok(()) => put_reasons(frozen, log, explained, out),
+        Err(r) => {
             let end = put_no(r, out);
             put_more(frozen, log, r, failure, out, end)
         }

@@ -1,5 +1,7 @@
 -- Lines, corrections and a run over sources do to the records what the theory of selection says of them.
 -- Assumes nothing.
+use Rattle.std.specs.Prelude.{Ok, Err}
+use Rattle.refusals.specs.Table.{Verdict}
 use mathlib.Core.Path.{◌≡◌, refl, sym, ap, ◌∙◌}
 use mathlib.Core.Bool.{true, false, cond}
 use mathlib.Core.List.{List, [], ◌∷◌, map}
@@ -12,8 +14,6 @@ use native.Mathlib.Numerals.{add-one}
 use lib.Dec.{eqb}
 use lib.ListN.{length, length-map}
 use Rattle.slices.proofs.Cases.{split}
-use Rattle.refusals.specs.declared.Verdict.{Verdict}
-use Rattle.refusals.specs.declared.Verdict.TheVariants.{Accepted, Refused}
 use Rattle.refusals.proofs.VerdictLaws.{never}
 use Rattle.corrections.specs.Reading.{Entry}
 use Rattle.routes.specs.Legal.{Wide}
@@ -96,8 +96,8 @@ module _ (f l : List ℕ) where
       judged ys a = at (touched_judged f l es 0 ys) refl
         where
           at : (v : Verdict) → touched_judged f l es 0 ys ≡ v → filed (after_judging n ys (refused_route f l es 0 ys) v) ≡ checked (R ys)
-          at Accepted e = rw ((touched_judged_lem f l es ys a).0 e)
-          at (Refused r) e =
+          at (Ok _) e = rw ((touched_judged_lem f l es ys a).0 e)
+          at (Err r) e =
               split (touched_accepted procedures (ops es) (R ys)) (λ t. absurd (never (sym e ∙ (touched_judged_lem f l es ys a).1 t))) (λ t. rw t)
 
       by : (next : Option (List ℕ)) → Option.map R next ≡ apply_all procedures (ops es) (R xs)

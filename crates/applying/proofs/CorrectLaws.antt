@@ -6,10 +6,8 @@ use mathlib.Core.List.{List}
 use mathlib.Core.Option.{Option, some}
 use Prim.Native.Nat.{ℕ, ◌≤◌}
 use native.Mathlib.Omega.{arith}
-use Rattle.refusals.specs.Table.{does_not_apply, route_refused}
+use Rattle.refusals.specs.Table.{does_not_apply, route_refused, Verdict, Accepted, Refused}
 use Rattle.refusals.specs.declared.Refusal.{Refusal}
-use Rattle.refusals.specs.declared.Verdict.{Verdict}
-use Rattle.refusals.specs.declared.Verdict.TheVariants.{Accepted, Refused}
 use Rattle.corrections.specs.Reading.{Entry}
 use Rattle.routes.specs.Sources.{in_use, sources_in}
 use Rattle.applying.specs.State.{held, Gives}

@@ -1,6 +1,8 @@
 -- Every source under corrections has an origin among the lines that were applied: no A line applies to a place that is taken, and the D
 -- line that applies to it takes out the record that stands there; so while a source stays, no line of its place applies.
 -- Assumes nothing.
+use Rattle.std.specs.Prelude.{Ok, Err}
+use Rattle.refusals.specs.Table.{Verdict}
 use mathlib.Core.Path.{◌≡◌, refl, sym, ap, subst, ◌∙◌}
 use mathlib.Core.Logic.{◌⊎◌, inl, inr}
 use mathlib.Core.Bool.{true, false, cond, false≢true}
@@ -14,13 +16,11 @@ use lib.ListN.{length, drop}
 use borrow.Author.Tests.{leb-false}
 use Rattle.slices.specs.Order.{order, equal}
 use Rattle.slices.specs.Search.{first_at}
-use Rattle.slices.specs.declared.Ordering.{Ordering}
-use Rattle.slices.specs.declared.Ordering.TheVariants.{Less, Equal, Greater}
+use Rattle.std.specs.declared.cmp.Ordering.{Ordering}
+use Rattle.std.specs.declared.cmp.Ordering.TheVariants.{Less, Equal, Greater}
 use Rattle.slices.proofs.Cases.{split}
 use Rattle.slices.proofs.OrderLaws.{irreflexive, turned, order_turned, order_equal}
 use Rattle.refusals.specs.declared.Refusal.{Refusal}
-use Rattle.refusals.specs.declared.Verdict.{Verdict}
-use Rattle.refusals.specs.declared.Verdict.TheVariants.{Accepted, Refused}
 use Rattle.corrections.specs.Reading.{Entry}
 use Rattle.routes.specs.Places.{place_of, Every}
 use Rattle.routes.specs.Sources.{record_at}
@@ -260,8 +260,8 @@ module _ (f l : List ℕ) where
       by (some zs) h = judged (touched_judged f l es 0 zs) h
         where
           judged : (v : Verdict) → after_judging n zs (refused_route f l es 0 zs) v ≡ reached ys → some zs ≡ some ys
-          judged Accepted e = let same : zs ≡ ys = cc in ap some same
-          judged (Refused r) e = absurd (no_reached e)
+          judged (Ok _) e = let same : zs ≡ ys = cc in ap some same
+          judged (Err r) e = absurd (no_reached e)
 
   pub ran_traced : (T : Numbers) (n : ℕ) (ess : List (List Entry)) (lines : List Entry) (xs ys : List ℕ) → Every (Every Lettered) ess
       → ran f l T n ess xs ≡ reached ys → Traced lines xs → Traced (lines ++ lines_of T n ess) ys

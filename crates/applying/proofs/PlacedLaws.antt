@@ -13,8 +13,8 @@ use borrow.Author.Tests.{lt-leb}
 use Rattle.slices.specs.Part.{part}
 use Rattle.slices.specs.Order.{order, equal}
 use Rattle.slices.specs.Search.{first_at}
-use Rattle.slices.specs.declared.Ordering.{Ordering}
-use Rattle.slices.specs.declared.Ordering.TheVariants.{Less, Equal, Greater}
+use Rattle.std.specs.declared.cmp.Ordering.{Ordering}
+use Rattle.std.specs.declared.cmp.Ordering.TheVariants.{Less, Equal, Greater}
 use Rattle.slices.proofs.Cases.{split}
 use Rattle.slices.proofs.OrderLaws.{equal_iff, irreflexive, turned, order_turned, order_equal, order_refl}
 use Rattle.slices.proofs.PartLaws.{part_all}

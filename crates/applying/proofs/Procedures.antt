@@ -1,5 +1,7 @@
 -- A list of records is an accepted file of the theory of selection, for the format of this product, exactly when it is judged so.
 -- Assumes nothing.
+use Rattle.std.specs.Prelude.{Ok, Err}
+use Rattle.refusals.specs.Table.{Verdict, Accepted}
 use mathlib.Core.Path.{◌≡◌, refl, sym, ap, ◌∙◌}
 use mathlib.Core.Bool.{true, cond, false≢true}
 use mathlib.Core.List.{List, [], ◌∷◌, map}
@@ -8,8 +10,6 @@ use Prim.Native.Nat.{ℕ}
 use Rattle.slices.specs.Order.{equal}
 use Rattle.slices.proofs.Cases.{split}
 use Rattle.slices.proofs.OrderLaws.{equal_iff}
-use Rattle.refusals.specs.declared.Verdict.{Verdict}
-use Rattle.refusals.specs.declared.Verdict.TheVariants.{Accepted, Refused}
 use Rattle.routes.specs.Places.{key_of, place_of, of_route, Rising, Every, Before}
 use Rattle.routes.specs.Walk.{walked}
 use Rattle.routes.proofs.Routes.{by_routes}
@@ -50,8 +50,8 @@ unfolding accepts
 accepts_iff rs = (by (walked rs), λ e. ap is_accepted e)
   where
     by : (v : Verdict) → is_accepted v ≡ true → v ≡ Accepted
-    by Accepted e = refl
-    by (Refused r) e = absurd (false≢true e)
+    by (Ok _) e = refl
+    by (Err r) e = absurd (false≢true e)
 
 -- records are an accepted file of the theory exactly when they are judged so in sequence
 pub accepted_iff : (rs : List (List ℕ)) → H.Accepted procedures rs ↔ (walked rs ≡ Accepted)

@@ -1,6 +1,8 @@
 -- Places that rise: a test of neighbours shows it, every line of a log keeps it, and a search by halves then comes to what a search in turn
 -- comes to.
 -- Assumes nothing.
+use Rattle.std.specs.Prelude.{Ok, Err}
+use Rattle.refusals.specs.Table.{Verdict}
 use mathlib.Core.Path.{◌≡◌, refl, sym, ap, ap₂, subst, ◌∙◌}
 use mathlib.Core.Logic.{◌⊎◌, inl, inr, ⊎_elim}
 use mathlib.Core.Bool.{Bool, true, false, cond, false≢true}
@@ -15,13 +17,11 @@ use lib.Dec.{eqb, leb}
 use lib.ListN.{length, get_or, drop}
 use borrow.Author.Tests.{leb-false}
 use Rattle.slices.specs.Order.{order}
-use Rattle.slices.specs.declared.Ordering.{Ordering}
-use Rattle.slices.specs.declared.Ordering.TheVariants.{Less, Equal, Greater}
+use Rattle.std.specs.declared.cmp.Ordering.{Ordering}
+use Rattle.std.specs.declared.cmp.Ordering.TheVariants.{Less, Equal, Greater}
 use Rattle.slices.proofs.Cases.{split}
 use Rattle.slices.proofs.OrderLaws.{transitive}
 use Rattle.slices.proofs.SearchLaws.{Come, starts, goes_on, finds, ends}
-use Rattle.refusals.specs.declared.Verdict.{Verdict}
-use Rattle.refusals.specs.declared.Verdict.TheVariants.{Accepted, Refused}
 use Rattle.corrections.specs.Reading.{Entry}
 use Rattle.routes.specs.Places.{place_of, Before, Every, Rising}
 use Rattle.routes.specs.Sources.{record_at, in_use}
@@ -154,8 +154,8 @@ module _ (f l : List ℕ) where
   corrected_lines judging n es xs ys e = by (lines_applied f l es xs) e
     where
       judged : (zs : List ℕ) (v : Verdict) (route : List ℕ) → after_judging n zs route v ≡ reached ys → zs ≡ ys
-      judged zs Accepted route q = reached_same q
-      judged zs (Refused r) route q = not_stopped q refl
+      judged zs (Ok _) route q = reached_same q
+      judged zs (Err r) route q = not_stopped q refl
 
       settled : (b : Bool) (zs : List ℕ) → cond b (after_judging n zs (refused_route f l es 0 zs) (touched_judged f l es 0 zs)) (reached zs) ≡ reached ys → zs ≡ ys
       settled true zs q = judged zs (touched_judged f l es 0 zs) (refused_route f l es 0 zs) q

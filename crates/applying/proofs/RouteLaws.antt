@@ -1,5 +1,6 @@
 -- The records of a route among those of rising places: they lie together from the place of the route's key on, which is before all of them.
 -- Assumes nothing.
+use Rattle.refusals.specs.Table.{Verdict, Accepted}
 use mathlib.Core.Path.{◌≡◌, refl, sym, ap, ap₂, subst, ◌∙◌}
 use mathlib.Core.Logic.{◌⊎◌, inl, inr, ⊎_elim}
 use mathlib.Core.Bool.{true, false≢true}
@@ -11,14 +12,12 @@ use lib.Seq.{get_or-take, length-take-le, take_at}
 use Rattle.slices.specs.Part.{part}
 use Rattle.slices.specs.Order.{order, equal}
 use Rattle.slices.specs.Search.{first_at}
-use Rattle.slices.specs.declared.Ordering.{Ordering}
-use Rattle.slices.specs.declared.Ordering.TheVariants.{Less, Equal, Greater}
+use Rattle.std.specs.declared.cmp.Ordering.{Ordering}
+use Rattle.std.specs.declared.cmp.Ordering.TheVariants.{Less, Equal, Greater}
 use Rattle.slices.proofs.Cases.{split}
 use Rattle.slices.proofs.OrderLaws.{after, order_greater, order_level, order_refl, order_turned, turned, order_equal, equal_iff, irreflexive, transitive}
 use Rattle.slices.proofs.PartLaws.{length_part}
 use Rattle.routes.specs.Places.{key_of, place_of, of_route, Before, Every}
-use Rattle.refusals.specs.declared.Verdict.{Verdict}
-use Rattle.refusals.specs.declared.Verdict.TheVariants.{Accepted}
 use Rattle.routes.specs.Sources.{record_at, in_use, sources_in}
 use Rattle.routes.specs.declared.Sources.{Sources}
 use Rattle.routes.specs.Walk.{walked}

@@ -11,8 +11,8 @@ use lib.Seq.{drop-cons, get_or-take, length-take-le, take-take}
 use borrow.Author.Tests.{le-leb, lt-leb}
 use Rattle.slices.specs.Part.{part}
 use Rattle.slices.specs.Order.{order, is_equal, equal}
-use Rattle.slices.specs.declared.Ordering.{Ordering}
-use Rattle.slices.specs.declared.Ordering.TheVariants.{Less, Equal, Greater}
+use Rattle.std.specs.declared.cmp.Ordering.{Ordering}
+use Rattle.std.specs.declared.cmp.Ordering.TheVariants.{Less, Equal, Greater}
 use Rattle.slices.proofs.OrderLaws.{after, order_append}
 use Rattle.slices.proofs.PartLaws.{length_part}
 use Rattle.slices.proofs.SearchLaws.{Come, starts, finds, goes_on, ends, first_within}

@@ -1,6 +1,8 @@
 -- The routes that a correction touches: judged by the sources, they are accepted exactly when the theory of selection accepts them. The
 -- sources of a route stand together, since places rise, so the run that is judged is the route.
 -- Assumes nothing.
+use Rattle.std.specs.Prelude.{Ok, Err}
+use Rattle.refusals.specs.Table.{Verdict, Accepted, Refused}
 use mathlib.Core.Path.{◌≡◌, refl, sym, ap, subst, ◌∙◌}
 use mathlib.Core.Logic.{◌↔◌, inl, inr, ⊎_elim}
 use mathlib.Core.Bool.{Bool, true, false, cond, ◌&&◌, false≢true}
@@ -14,8 +16,6 @@ use Rattle.slices.specs.Order.{equal}
 use Rattle.slices.proofs.Cases.{split, both, and_left, and_right, or_iff}
 use Rattle.slices.proofs.OrderLaws.{equal_iff}
 use Rattle.refusals.specs.declared.Refusal.{Refusal}
-use Rattle.refusals.specs.declared.Verdict.{Verdict}
-use Rattle.refusals.specs.declared.Verdict.TheVariants.{Accepted, Refused}
 use Rattle.refusals.proofs.VerdictLaws.{never, same_refusal}
 use Rattle.corrections.specs.Reading.{Entry}
 use Rattle.corrections.specs.declared.Index.{Index}
@@ -287,8 +287,8 @@ module _ (f l : List ℕ) where
           → in_turn (cond a v Accepted ∷ touched_judged f l es n xs ∷ []) ≡ Refused r
           → (in_turn (touched_judged f l es n xs ∷ []) ≡ Refused r → Told (refused_route f l es n xs) (records_of f l (drop n xs)))
           → Told (if_refused (cond (touched f l es x) (walked (records_of f l (x ∷ take n xs))) Accepted) (x ∷ take n xs) (refused_route f l es n xs)) (records_of f l (x ∷ xs))
-      by true a (Refused s) v h rest = rw (a, v) (key x, (names_iff es x).0 a, sym (whole es x xs u), v ∙ ap Refused (same_refusal h))
-      by true a Accepted v h rest = rw (a, v) (later (rest h))
+      by true a (Err s) v h rest = rw (a, v) (key x, (names_iff es x).0 a, sym (whole es x xs u), v ∙ ap Refused (same_refusal h))
+      by true a (Ok _) v h rest = rw (a, v) (later (rest h))
       by false a v q h rest = rw a (later (rest h))
 
   pub refused_alone : (es : List Entry) (xs : List ℕ) (r : Refusal) → H.Rising procedures (records_of f l xs) → touched_judged f l es 0 xs ≡ Refused r

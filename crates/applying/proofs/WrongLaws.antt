@@ -1,5 +1,7 @@
 -- What is told of a run that fails is so.
 -- Assumes nothing.
+use Rattle.std.specs.Prelude.{Ok, Err}
+use Rattle.refusals.specs.Table.{Verdict}
 use mathlib.Core.Path.{◌≡◌, refl, sym, ap, ◌∙◌}
 use mathlib.Core.Bool.{Bool, true, cond}
 use mathlib.Core.List.{List, [], ◌∷◌, ◌++◌, map}
@@ -8,8 +10,6 @@ use mathlib.Core.Option.{Option, none, some, bind}
 use Prim.Native.Nat.{ℕ, ◌+◌}
 use native.Mathlib.Omega.{arith}
 use Rattle.refusals.specs.declared.Refusal.{Refusal}
-use Rattle.refusals.specs.declared.Verdict.{Verdict}
-use Rattle.refusals.specs.declared.Verdict.TheVariants.{Accepted, Refused}
 use Rattle.corrections.specs.Reading.{Entry}
 use Rattle.history.specs.Apply.{apply_all, correct}
 use Rattle.history.specs.Sets.{Numbers}
@@ -72,8 +72,8 @@ module _ (f l : List ℕ) where
     where
       told : (ys : List ℕ) → lines_applied f l es xs ≡ some ys → (v : Verdict) → touched_judged f l es 0 ys ≡ v → after_judging n ys (refused_route f l es 0 ys) v ≡ stopped r w
           → FirstWrong f l n (es ∷ ess) xs r w
-      told ys q Accepted t h = absurd (never_stops h)
-      told ys q (Refused inner) t h =
+      told ys q (Ok _) t h = absurd (never_stops h)
+      told ys q (Err inner) t h =
           let records = lines_records f l es xs more wide p in
           let placed = every_some (λ g. Placed g more) (apply_all procedures (map (operation f l) es) (records_of f l xs)) (records_of f l ys) (placed_all (map (operation f l) es) (records_of f l xs) more wide p)
           (sym records ∙ ap (Option.map (records_of f l)) q) in

@@ -1,11 +1,10 @@
 -- A correction applied to the records of a file, by their sources: its lines in order, then the routes that its lines name.
 -- Assumes nothing.
-use Rattle.std.specs.Prelude.{ℕ, zero, suc, ◌+◌, ◌≤◌, ◌≡◌, Bool, false, cond, ◌||◌, List, [], ◌∷◌, map, eqb, length, get_or, take}
+use Rattle.refusals.specs.Table.{Verdict, Accepted}
+use Rattle.std.specs.Prelude.{ℕ, zero, suc, ◌+◌, ◌≤◌, ◌≡◌, Bool, false, cond, ◌||◌, List, [], ◌∷◌, map, eqb, length, get_or, take, Ok, Err}
 use Prim.Native.Char.{code}
 use Rattle.std.proofs.Math.Option.{Option, none, some, bind}
 use Rattle.slices.specs.Order.{equal}
-use Rattle.refusals.specs.declared.Verdict.{Verdict}
-use Rattle.refusals.specs.declared.Verdict.TheVariants.{Accepted, Refused}
 use Rattle.corrections.specs.Reading.{Entry, entry}
 use Rattle.corrections.specs.declared.Index.{Index}
 use Rattle.routes.specs.InTurn.{in_turn}
@@ -62,8 +61,8 @@ if_applied none a next = a
 if_applied (some xs) a next = next xs
 
 abbrev pub if_refused : {A : Type 0} → Verdict → A → A → A
-if_refused Accepted a b = b
-if_refused (Refused r) a b = a
+if_refused (Ok _) a b = b
+if_refused (Err r) a b = a
 
 module _ (frozen log : List ℕ) where
   abbrev pub record_of_line : Entry → List ℕ

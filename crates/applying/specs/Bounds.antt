@@ -1,10 +1,8 @@
 -- Corrections over any index and any sources: what no log and no file has is refused, and nothing is left open past the counts.
 -- Assumes nothing.
-use Rattle.std.specs.Prelude.{ℕ, Bool, true, cond, ◌&&◌, List, [], ◌∷◌, leb}
-use Rattle.refusals.specs.Table.{too_many_records, log_too_long}
+use Rattle.std.specs.Prelude.{ℕ, Bool, true, cond, ◌&&◌, List, [], ◌∷◌, leb, Ok, Err}
+use Rattle.refusals.specs.Table.{too_many_records, log_too_long, Verdict, Accepted, Refused}
 use Rattle.refusals.specs.declared.Refusal.{Refusal}
-use Rattle.refusals.specs.declared.Verdict.{Verdict}
-use Rattle.refusals.specs.declared.Verdict.TheVariants.{Accepted, Refused}
 use Rattle.corrections.specs.declared.Index.{Index}
 use Rattle.routes.specs.InTurn.{in_turn}
 use Rattle.routes.specs.Sources.{in_use, sources_for}
@@ -29,8 +27,8 @@ bound_stage index state =
     [])
 
 abbrev pub bounded : Verdict → Outcome → Outcome
-bounded Accepted o = o
-bounded (Refused r) o = stopped r no_more
+bounded (Ok _) o = o
+bounded (Err r) o = stopped r no_more
 
 -- the corrections of a set among those of an index, in their order; their routes judged, or not
 unfoldable pub ran_over_by : (judging : Bool) (frozen log : List ℕ) → Numbers → Index → Sources → Outcome

@@ -1,11 +1,9 @@
 -- One correction: its lines, then the routes that they name.
 -- Assumes nothing.
-use Rattle.std.specs.Prelude.{ℕ, ◌≤◌, ◌≡◌, Bool, true, cond, List, []}
+use Rattle.std.specs.Prelude.{ℕ, ◌≤◌, ◌≡◌, Bool, true, cond, List, [], Ok, Err}
 use Rattle.std.proofs.Math.Option.{Option, some, none}
-use Rattle.refusals.specs.Table.{refusal, does_not_apply, route_refused}
+use Rattle.refusals.specs.Table.{refusal, does_not_apply, route_refused, Verdict, Accepted, Refused}
 use Rattle.refusals.specs.declared.Refusal.{Refusal}
-use Rattle.refusals.specs.declared.Verdict.{Verdict}
-use Rattle.refusals.specs.declared.Verdict.TheVariants.{Accepted, Refused}
 use Rattle.corrections.specs.Reading.{Entry}
 use Rattle.routes.specs.Sources.{in_use, sources_in, sources_for}
 use Rattle.applying.specs.Apply.{lines_applied, fails_at, touched_judged, refused_route}
@@ -28,8 +26,8 @@ pub data Outcome : Type 0 where
 
 -- "a touched route refused after a correction": the correction, and the number of the first route's refusal
 abbrev pub after_judging : ℕ → (xs route : List ℕ) → Verdict → Outcome
-after_judging n xs route Accepted = reached xs
-after_judging n xs route (Refused r) = stopped (route_refused n r.number) (wrong_route route r)
+after_judging n xs route (Ok _) = reached xs
+after_judging n xs route (Err r) = stopped (route_refused n r.number) (wrong_route route r)
 
 module _ (frozen log : List ℕ) where
   abbrev pub after_lines : (judging : Bool) → ℕ → List Entry → (fails : ℕ) → Option (List ℕ) → Outcome

@@ -1,12 +1,11 @@
 -- The format of this product, for the theory of selection: records of bytes, placed by columns 1-25, 27-29 and 39, with columns 1-25 for a
 -- route, and a route accepted where its records alone are. And the corrections of a log, in the words of that theory.
 -- Assumes nothing.
-use Rattle.std.specs.Prelude.{◌≡◌, Bool, true, false, cond, List, [], map, ℕ, eqb, take}
+use Rattle.refusals.specs.Table.{Verdict}
+use Rattle.std.specs.Prelude.{◌≡◌, Bool, true, false, cond, List, [], map, ℕ, eqb, take, Ok, Err}
 use Rattle.std.proofs.Common.{sym, ap, ◌∙◌, take_at}
 use Prim.Native.Char.{code}
 use Rattle.slices.proofs.PartLaws.{length_part}
-use Rattle.refusals.specs.declared.Verdict.{Verdict}
-use Rattle.refusals.specs.declared.Verdict.TheVariants.{Accepted, Refused}
 use Rattle.routes.specs.Places.{key_of, place_of}
 use Rattle.routes.specs.Walk.{walked}
 use Rattle.routes.proofs.Routes.{no_record}
@@ -18,8 +17,8 @@ use Rattle.corrections.specs.Text.{Change, takes_out, puts_in, LegalLog}
 use Rattle.applying.specs.Apply.{record_of_line}
 
 abbrev pub is_accepted : Verdict → Bool
-is_accepted Accepted = true
-is_accepted (Refused r) = false
+is_accepted (Ok _) = true
+is_accepted (Err r) = false
 
 -- whether records in sequence are accepted
 unfoldable pub accepts : List (List ℕ) → Bool

@@ -2,9 +2,8 @@
 -- Assumes nothing.
 use Rattle.std.specs.Prelude.{ℕ, ◌+◌, ◌≡◌, List, ◌∷◌, ◌++◌, map}
 use Rattle.std.proofs.Math.Option.{none, some}
-use Rattle.refusals.specs.Table.{does_not_apply, route_refused}
+use Rattle.refusals.specs.Table.{does_not_apply, route_refused, Refused}
 use Rattle.refusals.specs.declared.Refusal.{Refusal}
-use Rattle.refusals.specs.declared.Verdict.TheVariants.{Refused}
 use Rattle.corrections.specs.Reading.{Entry}
 use Rattle.history.specs.Apply.{Touches}
 use Rattle.routes.specs.Places.{of_route}

@@ -11,18 +11,18 @@ pub(crate) fn bounds(index: Index, state: Sources) -> Verdict
     ensures { result ≡ bound_stage index state }
 {
     if MOST_RECORDS < state.count {
-        return Verdict::Refused(Refusal::too_many_records());
+        return Err(Refusal::too_many_records());
     }
     if MOST_CHANGES < index.count {
-        return Verdict::Refused(Refusal::log_too_long());
+        return Err(Refusal::log_too_long());
     }
     let mut k = 0;
     while k < MOST_CHANGES {
         let at = index.at[k];
         if LONGEST_LOG < at as usize {
-            return Verdict::Refused(Refusal::log_too_long());
+            return Err(Refusal::log_too_long());
         }
         k += 1;
     }
-    Verdict::Accepted
+    Ok(())
 }

@@ -60,7 +60,7 @@ pub(crate) fn correct<'a>(
     if !change.done {
         let trouble = line_trouble(applied.fails_at);
         return Corrected {
-            verdict: Verdict::Refused(Refusal::does_not_apply(n)),
+            verdict: Err(Refusal::does_not_apply(n)),
             count,
             trouble,
         };
@@ -69,7 +69,7 @@ pub(crate) fn correct<'a>(
     let nothing = line_trouble(0);
     if !pass.judging {
         return Corrected {
-            verdict: Verdict::Accepted,
+            verdict: Ok(()),
             count: next,
             trouble: nothing,
         };
@@ -87,14 +87,14 @@ pub(crate) fn correct<'a>(
     );
     let verdict = judged.verdict;
     match verdict {
-        Verdict::Accepted => {
+        Ok(()) => {
             Corrected {
-                verdict: Verdict::Accepted,
+                verdict: Ok(()),
                 count: next,
                 trouble: nothing,
             }
         }
-        Verdict::Refused(r) => {
+        Err(r) => {
             let trouble = Trouble {
                 at: 0,
                 from: judged.from,
@@ -102,7 +102,7 @@ pub(crate) fn correct<'a>(
                 inner: r,
             };
             Corrected {
-                verdict: Verdict::Refused(Refusal::route_refused(n, r.number)),
+                verdict: Err(Refusal::route_refused(n, r.number)),
                 count: next,
                 trouble,
             }

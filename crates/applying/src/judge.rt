@@ -6,7 +6,7 @@
 // route, and each route one with each line of the correction.
 ghost use Rattle.std.specs.Prelude.{◌≡◌, true, map, ◌+◌, ◌-◌, ◌≤◌, ◌<◌, length, drop, get_or};
 ghost use Rattle.routes.specs.Walk.{walked};
-ghost use Rattle.refusals.specs.declared.Verdict.TheVariants.{Accepted};
+ghost use Rattle.refusals.specs.Table.{Accepted};
 ghost use Rattle.routes.specs.Known.{Known};
 ghost use Rattle.routes.specs.Places.{place_of, Rising};
 ghost use Rattle.routes.specs.Sources.{log_source, record_at, in_use, sources_in};
@@ -113,10 +113,10 @@ fn judge_in_turn<'a>(
         if touches(frozen, log, offsets, from, to, source) {
             let verdict = judge_route(frozen, log, known, at, i, end);
             match verdict {
-                Verdict::Accepted => {}
-                Verdict::Refused(r) => {
+                Ok(()) => {}
+                Err(r) => {
                     return Judged {
-                        verdict: Verdict::Refused(r),
+                        verdict: Err(r),
                         from: i,
                         to: end,
                     };
@@ -126,7 +126,7 @@ fn judge_in_turn<'a>(
         i = end;
     }
     Judged {
-        verdict: Verdict::Accepted,
+        verdict: Ok(()),
         from: 0,
         to: 0,
     }
@@ -154,8 +154,8 @@ fn route_stands<'a>(
     let end = route_end(frozen, log, at, count, first, source);
     let verdict = judge_route(frozen, log, known, at, first, end);
     match verdict {
-        Verdict::Accepted => true,
-        Verdict::Refused(_) => false,
+        Ok(()) => true,
+        Err(_) => false,
     }
 }
 
@@ -243,7 +243,7 @@ pub(crate) fn judge_touched<'a>(
     if rising {
         if all_stand(frozen, log, known, offsets, from, to, at, count) {
             return Judged {
-                verdict: Verdict::Accepted,
+                verdict: Ok(()),
                 from: 0,
                 to: 0,
             };

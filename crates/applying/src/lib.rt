@@ -70,7 +70,7 @@ fn refused_run(refusal: Refusal, fault: Fault) -> Ran
     ensures { result ≡ refused_run refusal fault }
 {
     Ran {
-        verdict: Verdict::Refused(refusal),
+        verdict: Err(refusal),
         records: Sources {
             count: 0,
             at: [0u32; MOST_RECORDS],
@@ -125,8 +125,8 @@ fn run_by<'a>(
 {
     let bound = bounds(index, state);
     match bound {
-        Verdict::Accepted => {}
-        Verdict::Refused(r) => {
+        Ok(()) => {}
+        Err(r) => {
             let fault = no_fault();
             return refused_run(r, fault);
         }
@@ -139,8 +139,8 @@ fn run_by<'a>(
     let done = run_marked(frozen, log, pass, &known, index, marks, &mut at, count);
     let verdict = done.verdict;
     match verdict {
-        Verdict::Accepted => {}
-        Verdict::Refused(r) => {
+        Ok(()) => {}
+        Err(r) => {
             let trouble = done.trouble;
             let fault = fault_in(&at, trouble);
             return refused_run(r, fault);
@@ -149,7 +149,7 @@ fn run_by<'a>(
     let records = range_of(&at, 0, done.count);
     let fault = no_fault();
     Ran {
-        verdict: Verdict::Accepted,
+        verdict: Ok(()),
         records: records,
         fault: fault,
     }

@@ -56,7 +56,7 @@ fn correct_if<'a>(
     }
     let trouble = line_trouble(0);
     Corrected {
-        verdict: Verdict::Accepted,
+        verdict: Ok(()),
         count,
         trouble,
     }
@@ -103,8 +103,8 @@ pub(crate) fn run_marked<'a>(
         );
         let verdict = next.verdict;
         match verdict {
-            Verdict::Accepted => {}
-            Verdict::Refused(_) => {
+            Ok(()) => {}
+            Err(_) => {
                 return next;
             }
         }
@@ -114,7 +114,7 @@ pub(crate) fn run_marked<'a>(
     }
     let trouble = line_trouble(0);
     Corrected {
-        verdict: Verdict::Accepted,
+        verdict: Ok(()),
         count: standing,
         trouble,
     }

@@ -6,7 +6,7 @@
 ghost use Rattle.std.specs.Prelude.{◌≡◌, true, map, ◌+◌, ◌-◌, ◌≤◌, ◌<◌, length, drop};
 ghost use Rattle.slices.specs.Part.{part};
 ghost use Rattle.slices.specs.Order.{order};
-ghost use Rattle.slices.specs.declared.Ordering.TheVariants.{Equal};
+ghost use Rattle.std.specs.declared.cmp.Ordering.TheVariants.{Equal};
 ghost use Rattle.routes.specs.Places.{place_of, Rising};
 ghost use Rattle.routes.specs.Sources.{record_at, in_use, sources_in, sources_for};
 ghost use Rattle.applying.specs.State.{
@@ -26,7 +26,8 @@ ghost use Rattle.applying.specs.State.{
 
 use refusals::MOST_RECORDS;
 use routes::{RECORD_WIDTH, Sources, record_at};
-use slices::{Ordering, compare, same};
+use slices::{compare, same};
+use std::cmp::Ordering;
 
 // A change of a state: whether it could be made, and how many sources count after it.
 #[derive(Clone, Copy)]

@@ -8,15 +8,13 @@ use native.Mathlib.Omega.{arith}
 use native.Mathlib.Nat.{add-zero}
 use lib.ListN.{length, set}
 use lib.Seq.{sets, length-sets}
-use borrow.Author.Tests.{lt-ltb, le-ltb, ne_eqb}
+use borrow.Author.Tests.{lt-ltb, le-ltb}
 use Rattle.slices.specs.Part.{part, blank}
 use Rattle.slices.proofs.PartLaws.{part_all}
 use Rattle.fields.specs.Pieces.{Piece, or_zero, put, put_all}
 use Rattle.fields.specs.Numbers.{digits_of, marked_digits}
-use Rattle.fields.specs.Text.{bytes_of, text_bytes, word_bytes, letter_bytes}
+use Rattle.fields.specs.Text.{bytes_of, text_bytes}
 use Rattle.fields.specs.declared.text.Text.{Text}
-use Rattle.fields.specs.declared.text.Word.TheVariants as word
-use Rattle.fields.specs.declared.text.Letter.TheVariants as letter
 use Rattle.fields.proofs.NumberLaws.{digits_length}
 
 module _ (at : ℕ) where
@@ -40,10 +38,6 @@ as_put at bs x e = e
 -- the same where what is right is known by an equation
 pub as_right : (at : ℕ) (bs x : List ℕ) {q r : Bool} {z : List ℕ} → q ≡ r → z ≡ put at (or_zero q bs) x → z ≡ put at (or_zero r bs) x
 as_right at bs x {q} {r} {z} h e = subst (λ (t : Bool). z ≡ put at (or_zero t bs) x) h e
-
--- .. or how many digits there are
-pub as_wide : (at v : ℕ) (x : List ℕ) {n m : ℕ} {z : List ℕ} → n ≡ m → z ≡ put at (marked_digits [] n [] v) x → z ≡ put at (marked_digits [] m [] v) x
-as_wide at v x {n} {m} {z} h e = subst (λ (k : ℕ). z ≡ put at (marked_digits [] k [] v) x) h e
 
 pub length-put_all : (ps : List Piece) (out : List ℕ) → length (put_all ps out) ≡ length out
 unfolding put_all put
@@ -102,19 +96,3 @@ module _ (at : ℕ) (out : List ℕ) {z : List ℕ} where
     pub text_unfit : {b : Bool} → b ≡ blank (part (6 - n) n (bytes_of t)) → b ≡ false → z ≡ put at (0 ∷ []) out → z ≡ put at (text_bytes n t) out
     unfolding text_bytes
     text_unfit e h f = rw (← e, h) f
-
-    pub word_is : {b : Bool} → b ≡ blank (bytes_of t) → b ≡ false → z ≡ put at (text_bytes n t) out → z ≡ put at (word_bytes n (word.Is t)) out
-    unfolding word_bytes
-    word_is e h f = rw (← e, h) f
-
-    pub word_unfit : {b : Bool} → b ≡ blank (bytes_of t) → b ≡ true → z ≡ put at (0 ∷ []) out → z ≡ put at (word_bytes n (word.Is t)) out
-    unfolding word_bytes
-    word_unfit e h f = rw (← e, h) f
-
-  pub letter_put : (b : ℕ) → (b ≡ 32 → ⊥) → z ≡ put at (b ∷ []) out → z ≡ put at (letter_bytes (letter.Is b)) out
-  unfolding letter_bytes
-  letter_put b h f = rw (ne_eqb b 32 h) f
-
-  pub letter_unfit : (b : ℕ) → b ≡ 32 → z ≡ put at (0 ∷ []) out → z ≡ put at (letter_bytes (letter.Is b)) out
-  unfolding letter_bytes
-  letter_unfit b h f = rw h f

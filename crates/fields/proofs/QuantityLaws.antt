@@ -7,6 +7,7 @@ use mathlib.Core.List.Memᴰ
 use mathlib.Core.List.{List, [], ◌∷◌, ◌++◌, append-nil}
 use Prim.Native.Nat.{ℕ, suc, ◌+◌, ◌^◌, ◌≤◌, ◌<◌}
 use native.Mathlib.Omega.{arith}
+use Rattle.std.specs.Prelude.{Option, None, Some}
 use lib.Dec.{ltb}
 use lib.ListN.{length, get_or, replicate, length-append}
 use borrow.Author.Tests.{lt-ltb, ltb-true, ne_eqb}
@@ -23,6 +24,7 @@ use Rattle.leg.specs.Terminator.{terminator_of, name_of}
 use Rattle.leg.proofs.Legality.{named_back}
 use Rattle.leg.proofs.TerminatorLaws.{row_of}
 use Rattle.fields.specs.Pieces.{with_blanks}
+use Rattle.fields.specs.Optional.{unless_blank, optional_bytes, quantity_of, quantity_bytes}
 use Rattle.fields.specs.Numbers.{digits_of, marked_digits, numeral}
 use Rattle.fields.specs.Quantities.{
   rnp_of,
@@ -33,40 +35,35 @@ use Rattle.fields.specs.Quantities.{
   theta_bytes,
   rho_of,
   rho_bytes,
+  course_said,
+  bytes_of_course,
   course_of,
   course_bytes,
+  distance_said,
+  bytes_of_distance,
   distance_of,
   distance_bytes,
+  altitude_said,
+  bytes_of_altitude,
   altitude_of,
   altitude_bytes,
   transition_altitude_of,
   transition_altitude_bytes,
   speed_of,
   speed_bytes,
+  angle_said,
+  bytes_of_angle,
   vertical_angle_of,
   vertical_angle_bytes,
 }
-use Rattle.fields.specs.Turn.{turn_of, turn_bytes}
-use Rattle.fields.specs.declared.quantities.Rnp.{Rnp}
-use Rattle.fields.specs.declared.quantities.Rnp.TheVariants as rnp
-use Rattle.fields.specs.declared.quantities.ArcRadius.{ArcRadius}
-use Rattle.fields.specs.declared.quantities.ArcRadius.TheVariants as arc_radius
-use Rattle.fields.specs.declared.quantities.Theta.{Theta}
-use Rattle.fields.specs.declared.quantities.Theta.TheVariants as theta
-use Rattle.fields.specs.declared.quantities.Rho.{Rho}
-use Rattle.fields.specs.declared.quantities.Rho.TheVariants as rho
+use Rattle.fields.specs.Turn.{turn_of, bytes_of_turn, turn_bytes}
+use Rattle.fields.specs.declared.units.HundredthsOfDegree.{HundredthsOfDegree}
 use Rattle.fields.specs.declared.quantities.Course.{Course as CoursePart}
 use Rattle.fields.specs.declared.quantities.Course.TheVariants as course
 use Rattle.fields.specs.declared.quantities.Distance.{Distance as DistancePart}
 use Rattle.fields.specs.declared.quantities.Distance.TheVariants as distance
 use Rattle.fields.specs.declared.quantities.Altitude.{Altitude as AltitudePart}
 use Rattle.fields.specs.declared.quantities.Altitude.TheVariants as altitude
-use Rattle.fields.specs.declared.quantities.TransitionAltitude.{TransitionAltitude}
-use Rattle.fields.specs.declared.quantities.TransitionAltitude.TheVariants as transition_altitude
-use Rattle.fields.specs.declared.quantities.Speed.{Speed}
-use Rattle.fields.specs.declared.quantities.Speed.TheVariants as speed
-use Rattle.fields.specs.declared.quantities.VerticalAngle.{VerticalAngle}
-use Rattle.fields.specs.declared.quantities.VerticalAngle.TheVariants as vertical_angle
 use Rattle.fields.specs.declared.turn.Turn.{Turn}
 use Rattle.fields.specs.declared.turn.Turn.TheVariants as turn
 use Rattle.fields.proofs.NumberLaws.{digits_length, digits_value, digits_back, digits_each}
@@ -143,100 +140,80 @@ module _ (n : ℕ) where
     there = λ v s. ap value (number_held v s).0 ∙ (number_held v s).1.worth;
   }
 
-  -- a number that may be absent
-  module _ {A : Type 0} (absent : A) (is : ℕ → A) (bytes : A → List ℕ) (none : bytes absent ≡ []) (some : (v : ℕ) → bytes (is v) ≡ numeral (suc n) v)
-      (cases : (v : A) → (v ≡ absent) ⊎ ((k : ℕ) × (v ≡ is k))) (of : List ℕ → A) (blank_of : (f : List ℕ) → blank f ≡ true → of f ≡ absent) (number_of_lem : (f : List ℕ) → blank f ≡ false → of f ≡ is (value f)) where
-    optional_short : (v : A) → length (bytes v) ≤ suc n
-    optional_short v = ⊎_elim (λ e. subst (λ (x : A). length (bytes x) ≤ suc n) (sym e) (rw none (omega arith)))
-        (λ r. subst (λ (x : A). length (bytes x) ≤ suc n) (sym r.1) (rw (some r.0) (number_field.short r.0))) (cases v)
+-- what may be absent: its own field, where it is never blank, or a field of blanks
+module _ {A : Type 0} {w : ℕ} {of : List ℕ → A} {bytes : A → List ℕ} {Good : List ℕ → Type 0} (field : Field w of bytes Good)
+    (filled : (f : List ℕ) → Good f → blank f ≡ false) (seen : (v : A) → Sound (with_blanks w (bytes v)) → blank (with_blanks w (bytes v)) ≡ false) where
+  optional_field : Field w (unless_blank of) (optional_bytes bytes) (OrBlank w Good)
+  unfolding unless_blank optional_bytes
+  optional_field = record { short = short; back = back; there = there }
+    where
+      short : (v : Option A) → length (optional_bytes bytes v) ≤ w
+      short None = omega arith
+      short (Some v) = field.short v
 
-    optional_back : (f : List ℕ) → OrBlank (suc n) (Digits (suc n)) f → with_blanks (suc n) (bytes (of f)) ≡ f
-    optional_back f (inl d) = ap (λ (x : A). with_blanks (suc n) (bytes x)) (number_of_lem f (digits_filled f (omega (arith, d.0)) d.1)) ∙ ap (with_blanks (suc n)) (some (value f)) ∙ number_back f d
-    optional_back f (inr e) =
-        ap (λ (x : A). with_blanks (suc n) (bytes x)) (blank_of f (ap blank e ∙ blank_replicate (suc n))) ∙ ap (with_blanks (suc n)) none ∙ with_blanks_none (suc n) ∙ sym e
+      back : (f : List ℕ) → OrBlank w Good f → with_blanks w (optional_bytes bytes (unless_blank of f)) ≡ f
+      back f (inl g) = rw (filled f g) (field.back f g)
+      back f (inr e) = rw (ap blank e ∙ blank_replicate w) (with_blanks_none w ∙ sym e)
 
-    optional_there : (v : A) → Sound (with_blanks (suc n) (bytes v)) → of (with_blanks (suc n) (bytes v)) ≡ v
-    optional_there v s = ⊎_elim gone here (cases v)
-      where
-        gone : v ≡ absent → of (with_blanks (suc n) (bytes v)) ≡ v
-        gone e = ap (λ (x : A). of (with_blanks (suc n) (bytes x))) e ∙ ap (λ (x : List ℕ). of (with_blanks (suc n) x)) none ∙ ap of (with_blanks_none (suc n)) ∙ blank_of (replicate (suc n) 32) (blank_replicate (suc n)) ∙ sym e
+      there : (v : Option A) → Sound (with_blanks w (optional_bytes bytes v)) → unless_blank of (with_blanks w (optional_bytes bytes v)) ≡ v
+      there None s = rw (with_blanks_none w, blank_replicate)
+      there (Some v) s = rw (seen v s) (ap Some (field.there v s))
 
-        here : (k : ℕ) × (v ≡ is k) → of (with_blanks (suc n) (bytes v)) ≡ v
-        here r =
-            let k : ℕ = r.0 in
-            let b : bytes v ≡ numeral (suc n) k = ap bytes r.1 ∙ some k in
-            let h = number_held k (subst (λ (x : List ℕ). Sound (with_blanks (suc n) x)) b s) in
-            let q : with_blanks (suc n) (bytes v) ≡ digits_of (suc n) k = ap (with_blanks (suc n)) b ∙ h.0 in
-            let l : 1 ≤ length (digits_of (suc n) k) = rw (digits_length (suc n) k) (omega arith) in
-            ap of q ∙ number_of_lem (digits_of (suc n) k) (digits_filled (digits_of (suc n) k) l h.1.digits) ∙ ap is h.1.worth ∙ sym r.1
+-- a number of a unit, which keeps it
+module _ (n : ℕ) {A : Type 0} (of : ℕ → A) (worth : A → ℕ) (kept : (k : ℕ) → worth (of k) ≡ k) (whole : (v : A) → of (worth v) ≡ v) where
+  unit_field : Field (suc n) (λ f. of (value f)) (λ v. numeral (suc n) (worth v)) (Digits (suc n))
+  unit_field = record {
+    short = λ v. (number_field n).short (worth v);
+    back = λ f d. rw kept (number_back n f d);
+    there = λ v s. ap of ((number_field n).there (worth v) s) ∙ whole v;
+  }
 
-    optional : {Good : List ℕ → Type 0} → ((f : List ℕ) → Good f → OrBlank (suc n) (Digits (suc n)) f) → Field (suc n) of bytes Good
-    optional g = record { short = optional_short; back = λ f h. optional_back f (g f h); there = optional_there }
+  unit_seen : (v : A) → Sound (with_blanks (suc n) (numeral (suc n) (worth v))) → blank (with_blanks (suc n) (numeral (suc n) (worth v))) ≡ false
+  unit_seen v s =
+      let h = number_held n (worth v) s in
+      let l : 1 ≤ length (digits_of (suc n) (worth v)) = rw (digits_length (suc n) (worth v)) (omega arith) in
+      ap blank h.0 ∙ digits_filled (digits_of (suc n) (worth v)) l h.1.digits
+
+  pub quantity_field : Field (suc n) (quantity_of of) (quantity_bytes worth (suc n)) (OrBlank (suc n) (Digits (suc n)))
+  quantity_field = optional_field unit_field (λ f d. digits_filled f (omega (arith, d.0)) d.1) unit_seen
 
 pub rnp_field : Field 3 rnp_of rnp_bytes (OrBlank 3 (Digits 3))
-unfolding rnp_of rnp_bytes
-rnp_field = optional 2 rnp.Absent rnp.Is rnp_bytes refl (λ v. refl) cases rnp_of (λ f e. rw e) (λ f e. rw e) (λ f h. h)
-  where
-    cases : (v : Rnp) → (v ≡ rnp.Absent) ⊎ ((k : ℕ) × (v ≡ rnp.Is k))
-    cases rnp.Absent = inl refl
-    cases (rnp.Is k) = inr (k, refl)
+rnp_field = quantity_field 2 _ _ (λ k. refl) (λ v. refl)
 
 pub arc_radius_field : Field 6 arc_radius_of arc_radius_bytes (OrBlank 6 (Digits 6))
-unfolding arc_radius_of arc_radius_bytes
-arc_radius_field = optional 5 arc_radius.Absent (λ k. arc_radius.Is (record { 0 = k })) arc_radius_bytes refl (λ v. refl) cases arc_radius_of (λ f e. rw e) (λ f e. rw e) (λ f h. h)
-  where
-    cases : (v : ArcRadius) → (v ≡ arc_radius.Absent) ⊎ ((k : ℕ) × (v ≡ arc_radius.Is (record { 0 = k })))
-    cases arc_radius.Absent = inl refl
-    cases (arc_radius.Is v) = inr (v.0, refl)
+arc_radius_field = quantity_field 5 _ _ (λ k. refl) (λ v. refl)
 
+-- theta holds fewer numbers than its digits
 pub theta_field : Field 4 theta_of theta_bytes (OrBlank 4 Tenths)
-unfolding theta_of theta_bytes
-theta_field = optional 3 theta.Absent (λ k. theta.Is (record { 0 = k })) theta_bytes refl (λ v. refl) cases theta_of (λ f e. rw e) (λ f e. rw e) good
+theta_field = record { short = whole.short; back = λ f h. whole.back f (good f h); there = whole.there }
   where
-    cases : (v : Theta) → (v ≡ theta.Absent) ⊎ ((k : ℕ) × (v ≡ theta.Is (record { 0 = k })))
-    cases theta.Absent = inl refl
-    cases (theta.Is v) = inr (v.0, refl)
+    whole : Field 4 theta_of theta_bytes (OrBlank 4 (Digits 4))
+    whole = quantity_field 3 _ _ (λ k. refl) (λ v. refl)
 
     good : (f : List ℕ) → OrBlank 4 Tenths f → OrBlank 4 (Digits 4) f
     good f (inl h) = inl h.0
     good f (inr h) = inr h
 
 pub rho_field : Field 4 rho_of rho_bytes (OrBlank 4 (Digits 4))
-unfolding rho_of rho_bytes
-rho_field = optional 3 rho.Absent (λ k. rho.Is (record { 0 = k })) rho_bytes refl (λ v. refl) cases rho_of (λ f e. rw e) (λ f e. rw e) (λ f h. h)
-  where
-    cases : (v : Rho) → (v ≡ rho.Absent) ⊎ ((k : ℕ) × (v ≡ rho.Is (record { 0 = k })))
-    cases rho.Absent = inl refl
-    cases (rho.Is v) = inr (v.0, refl)
+rho_field = quantity_field 3 _ _ (λ k. refl) (λ v. refl)
 
 pub transition_altitude_field : Field 5 transition_altitude_of transition_altitude_bytes (OrBlank 5 (Digits 5))
-unfolding transition_altitude_of transition_altitude_bytes
-transition_altitude_field =
-    optional 4 transition_altitude.Absent (λ k. transition_altitude.Is (record { 0 = k })) transition_altitude_bytes refl (λ v. refl) cases transition_altitude_of (λ f e. rw e) (λ f e. rw e) (λ f h. h)
-  where
-    cases : (v : TransitionAltitude) → (v ≡ transition_altitude.Absent) ⊎ ((k : ℕ) × (v ≡ transition_altitude.Is (record { 0 = k })))
-    cases transition_altitude.Absent = inl refl
-    cases (transition_altitude.Is v) = inr (v.0, refl)
+transition_altitude_field = quantity_field 4 _ _ (λ k. refl) (λ v. refl)
 
 pub speed_field : Field 3 speed_of speed_bytes (OrBlank 3 (Digits 3))
-unfolding speed_of speed_bytes
-speed_field = optional 2 speed.Absent (λ k. speed.Is (record { 0 = k })) speed_bytes refl (λ v. refl) cases speed_of (λ f e. rw e) (λ f e. rw e) (λ f h. h)
-  where
-    cases : (v : Speed) → (v ≡ speed.Absent) ⊎ ((k : ℕ) × (v ≡ speed.Is (record { 0 = k })))
-    cases speed.Absent = inl refl
-    cases (speed.Is v) = inr (v.0, refl)
+speed_field = quantity_field 2 _ _ (λ k. refl) (λ v. refl)
 
 -- ---- the turn and the terminator
 
 pub turn_field : Field 1 turn_of turn_bytes (Code "LRE ")
-unfolding turn_of turn_bytes with_blanks each
+unfolding turn_of optional_bytes bytes_of_turn with_blanks each
 turn_field = record { short = short; back = back; there = there }
   where
-    short : (v : Turn) → length (turn_bytes v) ≤ 1
-    short turn.Absent = omega arith
-    short turn.Left = omega arith
-    short turn.Right = omega arith
-    short turn.Either = omega arith
+    short : (v : Option Turn) → length (turn_bytes v) ≤ 1
+    short None = omega arith
+    short (Some turn.Left) = omega arith
+    short (Some turn.Right) = omega arith
+    short (Some turn.Either) = omega arith
 
     of : (f : List ℕ) {b : ℕ} → f ≡ b ∷ [] → with_blanks 1 (turn_bytes (turn_of (b ∷ []))) ≡ b ∷ [] → with_blanks 1 (turn_bytes (turn_of f)) ≡ f
     of f e h = rw e h
@@ -247,11 +224,11 @@ turn_field = record { short = short; back = back; there = there }
         (λ m. ⊎_elim (λ e. of f e refl) (λ m. ⊎_elim (λ e. of f e refl) (λ m. ⊎_elim (λ e. of f e refl) (λ m. absurd (Memᴰ.not-nil m)) (Memᴰ.cases_cons m)) (Memᴰ.cases_cons m)) (Memᴰ.cases_cons m))
         (Memᴰ.cases_cons m)
 
-    there : (v : Turn) → Sound (with_blanks 1 (turn_bytes v)) → turn_of (with_blanks 1 (turn_bytes v)) ≡ v
-    there turn.Absent s = refl
-    there turn.Left s = refl
-    there turn.Right s = refl
-    there turn.Either s = refl
+    there : (v : Option Turn) → Sound (with_blanks 1 (turn_bytes v)) → turn_of (with_blanks 1 (turn_bytes v)) ≡ v
+    there None s = refl
+    there (Some turn.Left) s = refl
+    there (Some turn.Right) s = refl
+    there (Some turn.Either) s = refl
 
 pub terminator_field : Field 2 terminator_of name_of (OneOf terminators)
 terminator_field = record {
@@ -285,47 +262,47 @@ four : (f : List ℕ) → length f ≡ 4 → part 4 0 f ≡ f
 four f e = ap (λ (k : ℕ). part k 0 f) (sym e) ∙ part_all f
 
 -- minus and hundredths of a degree
-pub vertical_of : (h : List ℕ) → length h ≡ 3 → vertical_angle_of (45 ∷ (h ++ [])) ≡ vertical_angle.Down (record { 0 = value h })
-unfolding vertical_angle_of blank part
-vertical_of h l = ap (λ (f : List ℕ). vertical_angle.Down (record { 0 = value (part 3 0 f) })) (append-nil h) ∙ ap (λ (f : List ℕ). vertical_angle.Down (record { 0 = value f })) (three h l)
+pub vertical_of : (h : List ℕ) → length h ≡ 3 → vertical_angle_of (45 ∷ (h ++ [])) ≡ Some (record { 0 = value h })
+unfolding unless_blank angle_said blank part
+vertical_of h l = ap (λ (f : List ℕ). Some (record { 0 = value (part 3 0 f) })) (append-nil h) ∙ ap (λ (f : List ℕ). Some (record { 0 = value f })) (three h l)
 
-pub vertical_blank : (f : List ℕ) → blank f ≡ true → vertical_angle_of f ≡ vertical_angle.Absent
-unfolding vertical_angle_of
+pub vertical_blank : (f : List ℕ) → blank f ≡ true → vertical_angle_of f ≡ None
+unfolding unless_blank
 vertical_blank f e = rw e
 
 pub vertical_angle_field : Field 4 vertical_angle_of vertical_angle_bytes (OrBlank 4 (Then (Is "-") (Digits 3)))
-unfolding vertical_angle_bytes codes
+unfolding optional_bytes bytes_of_angle codes
 vertical_angle_field = record { short = short; back = back; there = there }
   where
-    short : (v : VerticalAngle) → length (vertical_angle_bytes v) ≤ 4
-    short vertical_angle.Absent = omega arith
-    short (vertical_angle.Down v) = marked_short 4 (45 ∷ []) 3 [] refl (omega arith) v.0
+    short : (v : Option HundredthsOfDegree) → length (vertical_angle_bytes v) ≤ 4
+    short None = omega arith
+    short (Some v) = marked_short 4 (45 ∷ []) 3 [] refl (omega arith) v.0
 
     back : (f : List ℕ) → OrBlank 4 (Then (Is "-") (Digits 3)) f → with_blanks 4 (vertical_angle_bytes (vertical_angle_of f)) ≡ f
     back f (inl (g, h, e, q, d)) =
         let s : f ≡ 45 ∷ (h ++ []) = e ∙ ap (λ (t : List ℕ). t ++ h) q ∙ ap (λ (t : List ℕ). 45 ∷ t) (sym (append-nil h)) in
-        marked_again 4 vertical_angle_bytes vertical_angle_of (45 ∷ []) 3 [] f h (vertical_angle.Down (record { 0 = value h })) refl d s (ap vertical_angle_of s ∙ vertical_of h d.0) refl
-    back f (inr e) = absent_back 4 vertical_angle.Absent vertical_angle_bytes refl vertical_angle_of vertical_blank f e
+        marked_again 4 vertical_angle_bytes vertical_angle_of (45 ∷ []) 3 [] f h (Some (record { 0 = value h })) refl d s (ap vertical_angle_of s ∙ vertical_of h d.0) refl
+    back f (inr e) = absent_back 4 None vertical_angle_bytes refl vertical_angle_of vertical_blank f e
 
-    there : (v : VerticalAngle) → Sound (with_blanks 4 (vertical_angle_bytes v)) → vertical_angle_of (with_blanks 4 (vertical_angle_bytes v)) ≡ v
-    there vertical_angle.Absent s = absent_there 4 vertical_angle.Absent vertical_angle_bytes refl vertical_angle_of vertical_blank
-    there (vertical_angle.Down v) s =
+    there : (v : Option HundredthsOfDegree) → Sound (with_blanks 4 (vertical_angle_bytes v)) → vertical_angle_of (with_blanks 4 (vertical_angle_bytes v)) ≡ v
+    there None s = absent_there 4 None vertical_angle_bytes refl vertical_angle_of vertical_blank
+    there (Some v) s =
         let h = marked_held 4 (45 ∷ []) 3 [] refl v.0 s in
-        ap vertical_angle_of h.bytes ∙ vertical_of (digits_of 3 v.0) (digits_length 3 v.0) ∙ ap (λ (k : ℕ). vertical_angle.Down (record { 0 = k })) h.worth
+        ap vertical_angle_of h.bytes ∙ vertical_of (digits_of 3 v.0) (digits_length 3 v.0) ∙ ap (λ (k : ℕ). Some (record { 0 = k })) h.worth
 
 -- tenths of a degree, or whole degrees and T
-pub course_blank : (f : List ℕ) → blank f ≡ true → course_of f ≡ course.Absent
-unfolding course_of
+pub course_blank : (f : List ℕ) → blank f ≡ true → course_of f ≡ None
+unfolding unless_blank course_said
 course_blank f e = rw e
 
-pub course_magnetic : (f : List ℕ) → Digits 4 f → course_of f ≡ course.Magnetic (record { 0 = value f })
-unfolding course_of
+pub course_magnetic : (f : List ℕ) → Digits 4 f → course_of f ≡ Some (course.Magnetic (record { 0 = value f }))
+unfolding unless_blank course_said
 course_magnetic f d =
     let t = each_at Digit f 3 (omega (arith, d.0)) d.1 in
     rw (digits_filled f (omega (arith, d.0)) d.1, ne_eqb (get_or f 3 0) 84 (λ e. omega (arith, t.1)))
 
-pub course_true : (h : List ℕ) → Digits 3 h → course_of (h ++ (84 ∷ [])) ≡ course.True (record { 0 = value h })
-unfolding course_of part blank
+pub course_true : (h : List ℕ) → Digits 3 h → course_of (h ++ (84 ∷ [])) ≡ Some (course.True (record { 0 = value h }))
+unfolding unless_blank course_said part blank
 course_true [] (l, d) = absurd (omega arith)
 course_true (a ∷ []) (l, d) = absurd (omega arith)
 course_true (a ∷ (b ∷ [])) (l, d) = absurd (omega arith)
@@ -333,101 +310,101 @@ course_true (a ∷ (b ∷ (c ∷ []))) (l, (x, d)) = rw (ne_eqb a 32 (λ e. omeg
 course_true (a ∷ (b ∷ (c ∷ (e ∷ f)))) (l, d) = absurd (omega arith)
 
 pub course_field : Field 4 course_of course_bytes (OrBlank 4 Course)
-unfolding course_bytes codes
+unfolding optional_bytes bytes_of_course codes
 course_field = record { short = short; back = back; there = there }
   where
-    short : (v : CoursePart) → length (course_bytes v) ≤ 4
-    short course.Absent = omega arith
-    short (course.Magnetic v) = marked_short 4 [] 4 [] refl (omega arith) v.0
-    short (course.True v) = marked_short 4 [] 3 (84 ∷ []) refl (omega arith) v.0
+    short : (v : Option CoursePart) → length (course_bytes v) ≤ 4
+    short None = omega arith
+    short (Some (course.Magnetic v)) = marked_short 4 [] 4 [] refl (omega arith) v.0
+    short (Some (course.True v)) = marked_short 4 [] 3 (84 ∷ []) refl (omega arith) v.0
 
     back : (f : List ℕ) → OrBlank 4 Course f → with_blanks 4 (course_bytes (course_of f)) ≡ f
-    back f (inl (inl (d, m))) = marked_again 4 course_bytes course_of [] 4 [] f f (course.Magnetic (record { 0 = value f })) refl d (sym (append-nil f)) (course_magnetic f d) refl
+    back f (inl (inl (d, m))) = marked_again 4 course_bytes course_of [] 4 [] f f (Some (course.Magnetic (record { 0 = value f }))) refl d (sym (append-nil f)) (course_magnetic f d) refl
     back f (inl (inr (g, h, e, (d, m), q))) =
         let s : f ≡ g ++ (84 ∷ []) = e ∙ ap (λ (t : List ℕ). g ++ t) q in
-        marked_again 4 course_bytes course_of [] 3 (84 ∷ []) f g (course.True (record { 0 = value g })) refl d s (ap course_of s ∙ course_true g d) refl
-    back f (inr e) = absent_back 4 course.Absent course_bytes refl course_of course_blank f e
+        marked_again 4 course_bytes course_of [] 3 (84 ∷ []) f g (Some (course.True (record { 0 = value g }))) refl d s (ap course_of s ∙ course_true g d) refl
+    back f (inr e) = absent_back 4 None course_bytes refl course_of course_blank f e
 
-    there : (v : CoursePart) → Sound (with_blanks 4 (course_bytes v)) → course_of (with_blanks 4 (course_bytes v)) ≡ v
-    there course.Absent s = absent_there 4 course.Absent course_bytes refl course_of course_blank
-    there (course.Magnetic v) s =
+    there : (v : Option CoursePart) → Sound (with_blanks 4 (course_bytes v)) → course_of (with_blanks 4 (course_bytes v)) ≡ v
+    there None s = absent_there 4 None course_bytes refl course_of course_blank
+    there (Some (course.Magnetic v)) s =
         let h = number_held 3 v.0 s in
-        ap course_of h.0 ∙ course_magnetic (digits_of 4 v.0) (digits_length 4 v.0, h.1.digits) ∙ ap (λ (k : ℕ). course.Magnetic (record { 0 = k })) h.1.worth
-    there (course.True v) s =
+        ap course_of h.0 ∙ course_magnetic (digits_of 4 v.0) (digits_length 4 v.0, h.1.digits) ∙ ap (λ (k : ℕ). Some (course.Magnetic (record { 0 = k }))) h.1.worth
+    there (Some (course.True v)) s =
         let h = marked_held 4 [] 3 (84 ∷ []) refl v.0 s in
-        ap course_of h.bytes ∙ course_true (digits_of 3 v.0) (digits_length 3 v.0, h.digits) ∙ ap (λ (k : ℕ). course.True (record { 0 = k })) h.worth
+        ap course_of h.bytes ∙ course_true (digits_of 3 v.0) (digits_length 3 v.0, h.digits) ∙ ap (λ (k : ℕ). Some (course.True (record { 0 = k }))) h.worth
 
 -- feet, FL and a level, minus and feet
-pub altitude_blank : (f : List ℕ) → blank f ≡ true → altitude_of f ≡ altitude.Absent
-unfolding altitude_of
+pub altitude_blank : (f : List ℕ) → blank f ≡ true → altitude_of f ≡ None
+unfolding unless_blank altitude_said
 altitude_blank f e = rw e
 
-pub altitude_feet : (f : List ℕ) → Digits 5 f → altitude_of f ≡ altitude.Feet (record { 0 = value f })
-unfolding altitude_of
+pub altitude_feet : (f : List ℕ) → Digits 5 f → altitude_of f ≡ Some (altitude.Feet (record { 0 = value f }))
+unfolding unless_blank altitude_said
 altitude_feet f d =
     let t = each_at Digit f 0 (omega (arith, d.0)) d.1 in
     rw (digits_filled f (omega (arith, d.0)) d.1, ne_eqb (get_or f 0 0) 70 (λ e. omega (arith, t.1)), ne_eqb (get_or f 0 0) 45 (λ e. omega (arith, t.0)))
 
-pub altitude_level : (h : List ℕ) → length h ≡ 3 → altitude_of (70 ∷ (76 ∷ (h ++ []))) ≡ altitude.Level (record { 0 = value h })
-unfolding altitude_of blank part
-altitude_level h l = ap (λ (f : List ℕ). altitude.Level (record { 0 = value (part 3 0 f) })) (append-nil h) ∙ ap (λ (f : List ℕ). altitude.Level (record { 0 = value f })) (three h l)
+pub altitude_level : (h : List ℕ) → length h ≡ 3 → altitude_of (70 ∷ (76 ∷ (h ++ []))) ≡ Some (altitude.Level (record { 0 = value h }))
+unfolding unless_blank altitude_said blank part
+altitude_level h l = ap (λ (f : List ℕ). Some (altitude.Level (record { 0 = value (part 3 0 f) }))) (append-nil h) ∙ ap (λ (f : List ℕ). Some (altitude.Level (record { 0 = value f }))) (three h l)
 
-pub altitude_below : (h : List ℕ) → length h ≡ 4 → altitude_of (45 ∷ (h ++ [])) ≡ altitude.Below (record { 0 = value h })
-unfolding altitude_of blank part
-altitude_below h l = ap (λ (f : List ℕ). altitude.Below (record { 0 = value (part 4 0 f) })) (append-nil h) ∙ ap (λ (f : List ℕ). altitude.Below (record { 0 = value f })) (four h l)
+pub altitude_below : (h : List ℕ) → length h ≡ 4 → altitude_of (45 ∷ (h ++ [])) ≡ Some (altitude.Below (record { 0 = value h }))
+unfolding unless_blank altitude_said blank part
+altitude_below h l = ap (λ (f : List ℕ). Some (altitude.Below (record { 0 = value (part 4 0 f) }))) (append-nil h) ∙ ap (λ (f : List ℕ). Some (altitude.Below (record { 0 = value f }))) (four h l)
 
 pub altitude_field : Field 5 altitude_of altitude_bytes (OrBlank 5 Altitude)
-unfolding altitude_bytes codes
+unfolding optional_bytes bytes_of_altitude codes
 altitude_field = record { short = short; back = back; there = there }
   where
-    short : (v : AltitudePart) → length (altitude_bytes v) ≤ 5
-    short altitude.Absent = omega arith
-    short (altitude.Feet v) = marked_short 5 [] 5 [] refl (omega arith) v.0
-    short (altitude.Below v) = marked_short 5 (45 ∷ []) 4 [] refl (omega arith) v.0
-    short (altitude.Level v) = marked_short 5 (70 ∷ (76 ∷ [])) 3 [] refl (omega arith) v.0
+    short : (v : Option AltitudePart) → length (altitude_bytes v) ≤ 5
+    short None = omega arith
+    short (Some (altitude.Feet v)) = marked_short 5 [] 5 [] refl (omega arith) v.0
+    short (Some (altitude.Below v)) = marked_short 5 (45 ∷ []) 4 [] refl (omega arith) v.0
+    short (Some (altitude.Level v)) = marked_short 5 (70 ∷ (76 ∷ [])) 3 [] refl (omega arith) v.0
 
     back : (f : List ℕ) → OrBlank 5 Altitude f → with_blanks 5 (altitude_bytes (altitude_of f)) ≡ f
-    back f (inl (inl (inl d))) = marked_again 5 altitude_bytes altitude_of [] 5 [] f f (altitude.Feet (record { 0 = value f })) refl d (sym (append-nil f)) (altitude_feet f d) refl
+    back f (inl (inl (inl d))) = marked_again 5 altitude_bytes altitude_of [] 5 [] f f (Some (altitude.Feet (record { 0 = value f }))) refl d (sym (append-nil f)) (altitude_feet f d) refl
     back f (inl (inl (inr (g, h, e, q, d)))) =
         let s : f ≡ 70 ∷ (76 ∷ (h ++ [])) = e ∙ ap (λ (t : List ℕ). t ++ h) q ∙ ap (λ (t : List ℕ). 70 ∷ (76 ∷ t)) (sym (append-nil h)) in
-        marked_again 5 altitude_bytes altitude_of (70 ∷ (76 ∷ [])) 3 [] f h (altitude.Level (record { 0 = value h })) refl d s (ap altitude_of s ∙ altitude_level h d.0) refl
+        marked_again 5 altitude_bytes altitude_of (70 ∷ (76 ∷ [])) 3 [] f h (Some (altitude.Level (record { 0 = value h }))) refl d s (ap altitude_of s ∙ altitude_level h d.0) refl
     back f (inl (inr (g, h, e, q, (d, least, most)))) =
         let s : f ≡ 45 ∷ (h ++ []) = e ∙ ap (λ (t : List ℕ). t ++ h) q ∙ ap (λ (t : List ℕ). 45 ∷ t) (sym (append-nil h)) in
-        marked_again 5 altitude_bytes altitude_of (45 ∷ []) 4 [] f h (altitude.Below (record { 0 = value h })) refl d s (ap altitude_of s ∙ altitude_below h d.0) refl
-    back f (inr e) = absent_back 5 altitude.Absent altitude_bytes refl altitude_of altitude_blank f e
+        marked_again 5 altitude_bytes altitude_of (45 ∷ []) 4 [] f h (Some (altitude.Below (record { 0 = value h }))) refl d s (ap altitude_of s ∙ altitude_below h d.0) refl
+    back f (inr e) = absent_back 5 None altitude_bytes refl altitude_of altitude_blank f e
 
-    there : (v : AltitudePart) → Sound (with_blanks 5 (altitude_bytes v)) → altitude_of (with_blanks 5 (altitude_bytes v)) ≡ v
-    there altitude.Absent s = absent_there 5 altitude.Absent altitude_bytes refl altitude_of altitude_blank
-    there (altitude.Feet v) s =
+    there : (v : Option AltitudePart) → Sound (with_blanks 5 (altitude_bytes v)) → altitude_of (with_blanks 5 (altitude_bytes v)) ≡ v
+    there None s = absent_there 5 None altitude_bytes refl altitude_of altitude_blank
+    there (Some (altitude.Feet v)) s =
         let h = number_held 4 v.0 s in
-        ap altitude_of h.0 ∙ altitude_feet (digits_of 5 v.0) (digits_length 5 v.0, h.1.digits) ∙ ap (λ (k : ℕ). altitude.Feet (record { 0 = k })) h.1.worth
-    there (altitude.Below v) s =
+        ap altitude_of h.0 ∙ altitude_feet (digits_of 5 v.0) (digits_length 5 v.0, h.1.digits) ∙ ap (λ (k : ℕ). Some (altitude.Feet (record { 0 = k }))) h.1.worth
+    there (Some (altitude.Below v)) s =
         let h = marked_held 5 (45 ∷ []) 4 [] refl v.0 s in
-        ap altitude_of h.bytes ∙ altitude_below (digits_of 4 v.0) (digits_length 4 v.0) ∙ ap (λ (k : ℕ). altitude.Below (record { 0 = k })) h.worth
-    there (altitude.Level v) s =
+        ap altitude_of h.bytes ∙ altitude_below (digits_of 4 v.0) (digits_length 4 v.0) ∙ ap (λ (k : ℕ). Some (altitude.Below (record { 0 = k }))) h.worth
+    there (Some (altitude.Level v)) s =
         let h = marked_held 5 (70 ∷ (76 ∷ [])) 3 [] refl v.0 s in
-        ap altitude_of h.bytes ∙ altitude_level (digits_of 3 v.0) (digits_length 3 v.0) ∙ ap (λ (k : ℕ). altitude.Level (record { 0 = k })) h.worth
+        ap altitude_of h.bytes ∙ altitude_level (digits_of 3 v.0) (digits_length 3 v.0) ∙ ap (λ (k : ℕ). Some (altitude.Level (record { 0 = k }))) h.worth
 
 -- tenths of a mile; T and tenths of a minute on a holding
-pub distance_blank : (holding : Bool) (f : List ℕ) → blank f ≡ true → distance_of holding f ≡ distance.Absent
-unfolding distance_of
+pub distance_blank : (holding : Bool) (f : List ℕ) → blank f ≡ true → distance_of holding f ≡ None
+unfolding unless_blank distance_said
 distance_blank holding f e = rw e
 
-pub distance_miles : (holding : Bool) (f : List ℕ) → Digits 4 f → distance_of holding f ≡ distance.Miles (record { 0 = value f })
-unfolding distance_of
+pub distance_miles : (holding : Bool) (f : List ℕ) → Digits 4 f → distance_of holding f ≡ Some (distance.Miles (record { 0 = value f }))
+unfolding unless_blank distance_said
 distance_miles holding f d =
     let t = each_at Digit f 0 (omega (arith, d.0)) d.1 in
     rw (digits_filled f (omega (arith, d.0)) d.1, ne_eqb (get_or f 0 0) 84 (λ e. omega (arith, t.1)), and-false holding)
 
-pub distance_minutes : (h : List ℕ) → length h ≡ 3 → distance_of true (84 ∷ (h ++ [])) ≡ distance.Minutes (record { 0 = value h })
-unfolding distance_of blank part
-distance_minutes h l = ap (λ (f : List ℕ). distance.Minutes (record { 0 = value (part 3 0 f) })) (append-nil h) ∙ ap (λ (f : List ℕ). distance.Minutes (record { 0 = value f })) (three h l)
+pub distance_minutes : (h : List ℕ) → length h ≡ 3 → distance_of true (84 ∷ (h ++ [])) ≡ Some (distance.Minutes (record { 0 = value h }))
+unfolding unless_blank distance_said blank part
+distance_minutes h l = ap (λ (f : List ℕ). Some (distance.Minutes (record { 0 = value (part 3 0 f) }))) (append-nil h) ∙ ap (λ (f : List ℕ). Some (distance.Minutes (record { 0 = value f }))) (three h l)
 
-pub distance_short : (v : DistancePart) → length (distance_bytes v) ≤ 4
-unfolding distance_bytes codes
-distance_short distance.Absent = omega arith
-distance_short (distance.Miles v) = marked_short 4 [] 4 [] refl (omega arith) v.0
-distance_short (distance.Minutes v) = marked_short 4 (84 ∷ []) 3 [] refl (omega arith) v.0
+pub distance_short : (v : Option DistancePart) → length (distance_bytes v) ≤ 4
+unfolding optional_bytes bytes_of_distance codes
+distance_short None = omega arith
+distance_short (Some (distance.Miles v)) = marked_short 4 [] 4 [] refl (omega arith) v.0
+distance_short (Some (distance.Minutes v)) = marked_short 4 (84 ∷ []) 3 [] refl (omega arith) v.0
 
 -- what a distance may hold, where T and minutes are only on a holding
 abbrev pub DistanceOn : Bool → List ℕ → Type 0
@@ -440,25 +417,25 @@ minutes_on holding f g e (inl (inr b)) = let z : ◌≡◌ {A = ℕ} 84 32 = sym
 minutes_on holding f g e (inr (t, r)) = t
 
 pub distance_back : (holding : Bool) (f : List ℕ) → DistanceOn holding f → with_blanks 4 (distance_bytes (distance_of holding f)) ≡ f
-unfolding distance_bytes codes
+unfolding optional_bytes bytes_of_distance codes
 distance_back holding f (inl (inl d)) =
-    marked_again 4 distance_bytes (distance_of holding) [] 4 [] f f (distance.Miles (record { 0 = value f })) refl d (sym (append-nil f)) (distance_miles holding f d) refl
-distance_back holding f (inl (inr e)) = absent_back 4 distance.Absent distance_bytes refl (distance_of holding) (distance_blank holding) f e
+    marked_again 4 distance_bytes (distance_of holding) [] 4 [] f f (Some (distance.Miles (record { 0 = value f }))) refl d (sym (append-nil f)) (distance_miles holding f d) refl
+distance_back holding f (inl (inr e)) = absent_back 4 None distance_bytes refl (distance_of holding) (distance_blank holding) f e
 distance_back holding f (inr (t, (g, h, e, q, d))) =
     let s : f ≡ 84 ∷ (h ++ []) = e ∙ ap (λ (x : List ℕ). x ++ h) q ∙ ap (λ (x : List ℕ). 84 ∷ x) (sym (append-nil h)) in
-    marked_again 4 distance_bytes (distance_of holding) (84 ∷ []) 3 [] f h (distance.Minutes (record { 0 = value h })) refl d s
+    marked_again 4 distance_bytes (distance_of holding) (84 ∷ []) 3 [] f h (Some (distance.Minutes (record { 0 = value h }))) refl d s
     (ap (λ (b : Bool). distance_of b f) t ∙ ap (distance_of true) s ∙ distance_minutes h d.0) refl
 
-pub distance_there : (holding : Bool) (v : DistancePart) → Sound (with_blanks 4 (distance_bytes v)) → DistanceOn holding (with_blanks 4 (distance_bytes v)) → distance_of holding (with_blanks 4 (distance_bytes v)) ≡ v
-unfolding distance_bytes codes
-distance_there holding distance.Absent s g = absent_there 4 distance.Absent distance_bytes refl (distance_of holding) (distance_blank holding)
-distance_there holding (distance.Miles v) s g =
+pub distance_there : (holding : Bool) (v : Option DistancePart) → Sound (with_blanks 4 (distance_bytes v)) → DistanceOn holding (with_blanks 4 (distance_bytes v)) → distance_of holding (with_blanks 4 (distance_bytes v)) ≡ v
+unfolding optional_bytes bytes_of_distance codes
+distance_there holding None s g = absent_there 4 None distance_bytes refl (distance_of holding) (distance_blank holding)
+distance_there holding (Some (distance.Miles v)) s g =
     let h = number_held 3 v.0 s in
-    ap (distance_of holding) h.0 ∙ distance_miles holding (digits_of 4 v.0) (digits_length 4 v.0, h.1.digits) ∙ ap (λ (k : ℕ). distance.Miles (record { 0 = k })) h.1.worth
-distance_there holding (distance.Minutes v) s g =
+    ap (distance_of holding) h.0 ∙ distance_miles holding (digits_of 4 v.0) (digits_length 4 v.0, h.1.digits) ∙ ap (λ (k : ℕ). Some (distance.Miles (record { 0 = k }))) h.1.worth
+distance_there holding (Some (distance.Minutes v)) s g =
     let h = marked_held 4 (84 ∷ []) 3 [] refl v.0 s in
     let t : holding ≡ true = minutes_on holding (with_blanks 4 (marked_digits (84 ∷ []) 3 [] v.0)) _ h.bytes g in
     ap (distance_of holding) h.bytes
     ∙ ap (λ (b : Bool). distance_of b (84 ∷ (digits_of 3 v.0 ++ []))) t
     ∙ distance_minutes (digits_of 3 v.0) (digits_length 3 v.0)
-    ∙ ap (λ (k : ℕ). distance.Minutes (record { 0 = k })) h.worth
+    ∙ ap (λ (k : ℕ). Some (distance.Minutes (record { 0 = k }))) h.worth

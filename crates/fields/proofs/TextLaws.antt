@@ -5,6 +5,7 @@ use mathlib.Core.Bool.{false}
 use mathlib.Core.List.{List, [], ◌∷◌, ◌++◌, append-nil}
 use Prim.Native.Nat.{ℕ, zero, suc, ◌+◌, ◌-◌, ◌≤◌}
 use native.Mathlib.Omega.{arith}
+use Rattle.std.specs.Prelude.{Option, None, Some}
 use lib.Dec.{eqb}
 use lib.ListN.{length, get_or, replicate}
 use borrow.Author.Tests.{eqb-true}
@@ -12,12 +13,10 @@ use Rattle.slices.specs.Part.{part, blank}
 use Rattle.slices.proofs.Cases.{split}
 use Rattle.slices.proofs.PartLaws.{length_part, part_append, blank_means, blank_replicate}
 use Rattle.fields.specs.Pieces.{with_blanks}
-use Rattle.fields.specs.Text.{bytes_of, text_of, text_bytes, word_of, word_bytes, letter_of, letter_bytes}
+use Rattle.fields.specs.Optional.{unless_blank, optional_bytes}
+use Rattle.fields.specs.Text.{bytes_of, text_of, text_bytes, bytes_of_word, word_of, word_bytes, bytes_of_letter, letter_of, letter_bytes}
 use Rattle.fields.specs.declared.text.Text.{Text}
-use Rattle.fields.specs.declared.text.Word.{Word}
-use Rattle.fields.specs.declared.text.Word.TheVariants as word
 use Rattle.fields.specs.declared.text.Letter.{Letter}
-use Rattle.fields.specs.declared.text.Letter.TheVariants as letter
 use Rattle.fields.proofs.Field.{Sound, Field}
 
 -- ---- blanks up to a width
@@ -113,50 +112,50 @@ module _ (n : ℕ) (h : 1 ≤ n) (k : n ≤ 6) where
 
   -- ---- words
 
-  word_short : (v : Word) → length (word_bytes n v) ≤ n
-  unfolding word_bytes
-  word_short word.Absent = omega arith
-  word_short (word.Is t) = split (blank (bytes_of t)) (λ e. rw e h) (λ e. rw e (text_short t))
+  word_short : (v : Option Text) → length (word_bytes n v) ≤ n
+  unfolding optional_bytes bytes_of_word
+  word_short None = omega arith
+  word_short (Some t) = split (blank (bytes_of t)) (λ e. rw e h) (λ e. rw e (text_short t))
 
   word_back : (f : List ℕ) → length f ≡ n → with_blanks n (word_bytes n (word_of f)) ≡ f
-  unfolding word_bytes word_of
+  unfolding unless_blank optional_bytes bytes_of_word
   word_back f l =
       split (blank f) (λ e. rw e (with_blanks_none n ∙ sym (blank_means f e ∙ ap (λ (m : ℕ). replicate m 32) l)))
       (λ e. let b : blank (bytes_of (text_of f)) ≡ false = (six f (omega arith)).same_blank ∙ e in rw (e, b) (text_back f l))
 
-  word_there : (v : Word) → Sound (with_blanks n (word_bytes n v)) → word_of (with_blanks n (word_bytes n v)) ≡ v
-  unfolding word_bytes word_of
-  word_there word.Absent s = rw (with_blanks_none n, blank_replicate)
-  word_there (word.Is t) s = split (blank (bytes_of t)) (λ e. unsound n (rw e at s)) (λ e. rw e (is e (rw e at s)))
+  word_there : (v : Option Text) → Sound (with_blanks n (word_bytes n v)) → word_of (with_blanks n (word_bytes n v)) ≡ v
+  unfolding unless_blank optional_bytes bytes_of_word
+  word_there None s = rw (with_blanks_none n, blank_replicate)
+  word_there (Some t) s = split (blank (bytes_of t)) (λ e. unsound n (rw e at s)) (λ e. rw e (is e (rw e at s)))
     where
-      is : blank (bytes_of t) ≡ false → Sound (with_blanks n (text_bytes n t)) → word_of (with_blanks n (text_bytes n t)) ≡ word.Is t
+      is : blank (bytes_of t) ≡ false → Sound (with_blanks n (text_bytes n t)) → word_of (with_blanks n (text_bytes n t)) ≡ Some t
       is e s =
           let f : List ℕ = part n 0 (bytes_of t) in
           let w = text_held t s in
           let l : length f ≡ n = length_part n 0 (bytes_of t) in
           let b : blank f ≡ false = sym (six f (omega arith)).same_blank ∙ ap (λ (x : Text). blank (bytes_of x)) w.1 ∙ e in
-          rw (w.0, b) (ap word.Is w.1)
+          rw (w.0, b) (ap Some w.1)
 
   pub word_field : Field n word_of (word_bytes n) (λ f. length f ≡ n)
   word_field = record { short = word_short; back = word_back; there = word_there }
 
 -- ---- letters
 
-letter_short : (v : Letter) → length (letter_bytes v) ≤ 1
-unfolding letter_bytes
-letter_short letter.Absent = omega arith
-letter_short (letter.Is b) = split (eqb b 32) (λ e. rw e (omega arith)) (λ e. rw e (omega arith))
+letter_short : (v : Option Letter) → length (letter_bytes v) ≤ 1
+unfolding optional_bytes bytes_of_letter
+letter_short None = omega arith
+letter_short (Some v) = split (eqb v.0 32) (λ e. rw e (omega arith)) (λ e. rw e (omega arith))
 
 letter_back : (f : List ℕ) → length f ≡ 1 → with_blanks 1 (letter_bytes (letter_of f)) ≡ f
-unfolding letter_bytes letter_of with_blanks blank
+unfolding unless_blank optional_bytes bytes_of_letter with_blanks blank
 letter_back [] l = absurd (omega arith)
 letter_back (b ∷ []) l = split (eqb b 32) (λ e. let q : b ≡ 32 = eqb-true b 32 e in rw q) (λ e. rw (e, e))
 letter_back (b ∷ (c ∷ f)) l = absurd (omega arith)
 
-letter_there : (v : Letter) → Sound (with_blanks 1 (letter_bytes v)) → letter_of (with_blanks 1 (letter_bytes v)) ≡ v
-unfolding letter_bytes letter_of with_blanks blank
-letter_there letter.Absent s = refl
-letter_there (letter.Is b) s = split (eqb b 32) (λ e. absurd ((rw e at s) refl)) (λ e. rw (e, e))
+letter_there : (v : Option Letter) → Sound (with_blanks 1 (letter_bytes v)) → letter_of (with_blanks 1 (letter_bytes v)) ≡ v
+unfolding unless_blank optional_bytes bytes_of_letter with_blanks blank
+letter_there None s = refl
+letter_there (Some v) s = split (eqb v.0 32) (λ e. absurd ((rw e at s) refl)) (λ e. rw (e, e))
 
 pub letter_field : Field 1 letter_of letter_bytes (λ f. length f ≡ 1)
 letter_field = record { short = letter_short; back = letter_back; there = letter_there }

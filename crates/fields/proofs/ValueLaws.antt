@@ -10,18 +10,8 @@ use Rattle.slices.proofs.PartLaws.{blank_replicate}
 use Rattle.columns.specs.Patterns.{codes}
 use Rattle.columns.specs.Words.{columns, Blank, Digits, PrimaryContent}
 use Rattle.leg.specs.Terminator.{terminator_of, is_holding}
-use Rattle.fields.specs.Quantities.{
-  rnp_of,
-  arc_radius_of,
-  theta_of,
-  rho_of,
-  course_of,
-  distance_of,
-  altitude_of,
-  transition_altitude_of,
-  speed_of,
-  vertical_angle_of,
-}
+use Rattle.fields.specs.Optional.{unless_blank}
+use Rattle.fields.specs.Quantities.{course_of, distance_of, altitude_of, vertical_angle_of}
 use Rattle.fields.specs.Head.{head_of, tail_of, cycle_of}
 use Rattle.fields.specs.Leg.{leg_of}
 use Rattle.fields.specs.Values.{AltitudeValue, Values}
@@ -49,7 +39,7 @@ altitude_value f = record {
 }
 
 pub values : (rec : List ℕ) → PrimaryContent rec → Values rec (leg_of rec)
-unfolding leg_of head_of tail_of cycle_of rnp_of arc_radius_of theta_of rho_of transition_altitude_of speed_of codes
+unfolding leg_of head_of tail_of cycle_of unless_blank codes
 values rec c = record {
   sequence = refl;
   no_rnp = λ e. rw (blanks 3 (columns 45 47 rec) e);

@@ -5,18 +5,19 @@ ghost use Rattle.fields.specs.Pieces.{put_all};
 ghost use Rattle.fields.specs.Continuation.{continuation_of, application_pieces, render_continuation};
 
 use crate::head::{Head, Tail, is_continuation_number};
-use crate::text::{Letter, byte_in, put_if};
+use crate::part::Part;
+use crate::text::{Letter, byte_in, letter_in, put_if};
 use columns::field::Field;
 use slices::copy;
 
 // How many bytes of a record stand before the 83.
 const START: usize = Field::CONTENT.0 - 1;
 
-#[derive(Clone, Copy)]
+#[derive(Clone, Copy, Debug, PartialEq, Eq)]
 pub struct Continuation {
     pub head: Head,
     pub number: u8,
-    pub application: Letter,
+    pub application: Option<Letter>,
     pub tail: Tail,
 }
 
@@ -37,7 +38,7 @@ impl Continuation {
         Continuation {
             head: Head::of(rec),
             number: byte_in(rec, Field::CONTINUATION),
-            application: Letter::of(rec, Field::APPLICATION),
+            application: letter_in(rec, Field::APPLICATION),
             tail: Tail::of(rec),
         }
     }
@@ -46,27 +47,24 @@ impl Continuation {
     fn put_application(self, content: [u8; 83], out: &mut [u8])
         ensures { out.new ≡ put_all (application_pieces self content) out.old }
     {
-        let application = self.application;
         put_if(
-            &mut *out,
+            out,
             Field::CONTINUATION,
             is_continuation_number(self.number),
             self.number,
         );
-        application.put(&mut *out, Field::APPLICATION);
-        copy(&content, 0, &mut *out, START, 83);
+        self.application.put(out, Field::APPLICATION);
+        copy(&content, 0, out, START, 83);
     }
 
     // The record of the continuation, whether it is legal or not.
     pub fn render(self, content: [u8; 83]) -> [u8; 132]
         ensures { result ≡ render_continuation self content }
     {
-        let head = self.head;
-        let tail = self.tail;
         let mut out = [b' '; 132];
-        head.put(&mut out);
+        self.head.put(&mut out);
         self.put_application(content, &mut out);
-        tail.put(&mut out);
+        self.tail.put(&mut out);
         out
     }
 }

@@ -5,11 +5,12 @@ ghost use Rattle.fields.specs.Pieces.{put_all};
 ghost use Rattle.fields.specs.Head.{continues, route_of, fix_of, head_of, cycle_of, tail_of, route_pieces, place_pieces, head_pieces, tail_pieces};
 
 use crate::numbers::{number_in, put_number};
-use crate::text::{Letter, Text, Word, byte_in, put_byte};
+use crate::part::Part;
+use crate::text::{Letter, Text, byte_in, letter_in, put_byte, put_text, text_in, word_in};
 use columns::field::Field;
 
 // Columns 1-25, by which a route is known. Column 5 is always P.
-#[derive(Clone, Copy)]
+#[derive(Clone, Copy, Debug, PartialEq, Eq)]
 pub struct Route {
     pub record_type: u8,
     pub area: Text,
@@ -18,19 +19,19 @@ pub struct Route {
     pub subsection: u8,
     pub procedure: Text,
     pub route_type: u8,
-    pub transition: Word,
+    pub transition: Option<Text>,
 }
 
 // Columns 30-38.
-#[derive(Clone, Copy)]
+#[derive(Clone, Copy, Debug, PartialEq, Eq)]
 pub struct Fix {
-    pub identifier: Word,
-    pub icao: Word,
-    pub section: Letter,
+    pub identifier: Option<Text>,
+    pub icao: Option<Text>,
+    pub section: Option<Letter>,
     pub subsection: u8,
 }
 
-#[derive(Clone, Copy)]
+#[derive(Clone, Copy, Debug, PartialEq, Eq)]
 pub struct Head {
     pub route: Route,
     pub sequence: u32,
@@ -38,13 +39,13 @@ pub struct Head {
 }
 
 // The year's last two digits, and the number of the cycle in it.
-#[derive(Clone, Copy)]
+#[derive(Clone, Copy, Debug, PartialEq, Eq)]
 pub struct Cycle {
     pub year: u32,
     pub number: u32,
 }
 
-#[derive(Clone, Copy)]
+#[derive(Clone, Copy, Debug, PartialEq, Eq)]
 pub struct Tail {
     pub record_number: u32,
     pub cycle: Cycle,
@@ -63,29 +64,28 @@ impl Route {
     {
         Route {
             record_type: byte_in(rec, Field::RECORD_TYPE),
-            area: Text::of(rec, Field::AREA),
-            airport: Text::of(rec, Field::AIRPORT),
-            icao: Text::of(rec, Field::AIRPORT_ICAO),
+            area: text_in(rec, Field::AREA),
+            airport: text_in(rec, Field::AIRPORT),
+            icao: text_in(rec, Field::AIRPORT_ICAO),
             subsection: byte_in(rec, Field::SUBSECTION),
-            procedure: Text::of(rec, Field::PROCEDURE),
+            procedure: text_in(rec, Field::PROCEDURE),
             route_type: byte_in(rec, Field::ROUTE_TYPE),
-            transition: Word::of(rec, Field::TRANSITION),
+            transition: word_in(rec, Field::TRANSITION),
         }
     }
 
     fn put(self, out: &mut [u8])
         ensures { out.new ≡ put_all (route_pieces self) out.old }
     {
-        let transition = self.transition;
-        put_byte(&mut *out, Field::RECORD_TYPE, self.record_type);
-        self.area.put(&mut *out, Field::AREA);
-        put_byte(&mut *out, Field::SECTION, b'P');
-        self.airport.put(&mut *out, Field::AIRPORT);
-        self.icao.put(&mut *out, Field::AIRPORT_ICAO);
-        put_byte(&mut *out, Field::SUBSECTION, self.subsection);
-        self.procedure.put(&mut *out, Field::PROCEDURE);
-        put_byte(&mut *out, Field::ROUTE_TYPE, self.route_type);
-        transition.put(&mut *out, Field::TRANSITION);
+        put_byte(out, Field::RECORD_TYPE, self.record_type);
+        put_text(out, Field::AREA, self.area);
+        put_byte(out, Field::SECTION, b'P');
+        put_text(out, Field::AIRPORT, self.airport);
+        put_text(out, Field::AIRPORT_ICAO, self.icao);
+        put_byte(out, Field::SUBSECTION, self.subsection);
+        put_text(out, Field::PROCEDURE, self.procedure);
+        put_byte(out, Field::ROUTE_TYPE, self.route_type);
+        self.transition.put(out, Field::TRANSITION);
     }
 }
 
@@ -94,9 +94,9 @@ impl Fix {
         ensures { result ≡ fix_of rec.now }
     {
         Fix {
-            identifier: Word::of(rec, Field::FIX),
-            icao: Word::of(rec, Field::FIX_ICAO),
-            section: Letter::of(rec, Field::FIX_SECTION),
+            identifier: word_in(rec, Field::FIX),
+            icao: word_in(rec, Field::FIX_ICAO),
+            section: letter_in(rec, Field::FIX_SECTION),
             subsection: byte_in(rec, Field::FIX_SUBSECTION),
         }
     }
@@ -118,22 +118,18 @@ impl Head {
         ensures { out.new ≡ put_all (place_pieces self) out.old }
     {
         let fix = self.fix;
-        let identifier = fix.identifier;
-        let icao = fix.icao;
-        let section = fix.section;
-        put_number(&mut *out, Field::SEQUENCE, self.sequence);
-        identifier.put(&mut *out, Field::FIX);
-        icao.put(&mut *out, Field::FIX_ICAO);
-        section.put(&mut *out, Field::FIX_SECTION);
-        put_byte(&mut *out, Field::FIX_SUBSECTION, fix.subsection);
+        put_number(out, Field::SEQUENCE, self.sequence);
+        fix.identifier.put(out, Field::FIX);
+        fix.icao.put(out, Field::FIX_ICAO);
+        fix.section.put(out, Field::FIX_SECTION);
+        put_byte(out, Field::FIX_SUBSECTION, fix.subsection);
     }
 
     pub(crate) fn put(self, out: &mut [u8])
         ensures { out.new ≡ put_all (head_pieces self) out.old }
     {
-        let route = self.route;
-        route.put(&mut *out);
-        self.put_place(&mut *out);
+        self.route.put(out);
+        self.put_place(out);
     }
 }
 
@@ -161,9 +157,8 @@ impl Tail {
     pub(crate) fn put(self, out: &mut [u8])
         ensures { out.new ≡ put_all (tail_pieces self) out.old }
     {
-        let cycle = self.cycle;
-        put_number(&mut *out, Field::RECORD_NUMBER, self.record_number);
-        put_number(&mut *out, Field::YEAR, cycle.year);
-        put_number(&mut *out, Field::CYCLE, cycle.number);
+        put_number(out, Field::RECORD_NUMBER, self.record_number);
+        put_number(out, Field::YEAR, self.cycle.year);
+        put_number(out, Field::CYCLE, self.cycle.number);
     }
 }

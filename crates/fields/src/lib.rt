@@ -5,6 +5,7 @@
 pub mod continuation;
 pub mod head;
 mod numbers;
+mod part;
 pub mod primary;
 pub mod quantities;
 pub mod text;

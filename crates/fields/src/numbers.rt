@@ -12,31 +12,16 @@ use columns::field::Field;
 use digits::number;
 use slices::{copy, put_after};
 
-fn power(n: usize) -> u32
-    requires { n ≤ 6 }
-    ensures { result ≡ 10 ^ n }
-{
-    let mut p = 1;
-    let mut k = 0;
-    while k < n {
-        p = p * 10;
-        k += 1;
-    }
-    p
-}
-
 // Puts the digits of a number that has at most `width` of them.
 fn put_digits(out: &mut [u8], at: usize, width: usize, n: u32)
     requires { (width ≤ 6) × (n < 10 ^ width) }
     ensures { out.new ≡ sets out.old at (digits_of width n) }
 {
     let mut rest = n;
-    let mut k = 0;
-    while k < width {
-        let unit = power(width - k - 1);
+    for k in 0..width {
+        let unit = 10u32.pow((width - k - 1) as u32);
         put_after(out, at, k, (48 + rest / unit) as u8);
         rest = rest % unit;
-        k += 1;
     }
 }
 
@@ -53,13 +38,13 @@ pub(crate) fn put_marked(
     ensures { out.new ≡ fill field (marked_digits before.now width after.now n) out.old }
 {
     let at = field.0 - 1;
-    if n < power(width) {
+    if n < 10u32.pow(width as u32) {
         let from = at + before.len();
-        copy(before, 0, &mut *out, at, before.len());
-        put_digits(&mut *out, from, width, n);
-        copy(after, 0, &mut *out, from + width, after.len());
+        copy(before, 0, out, at, before.len());
+        put_digits(out, from, width, n);
+        copy(after, 0, out, from + width, after.len());
     } else {
-        put_after(&mut *out, at, 0, 0);
+        put_after(out, at, 0, 0);
     }
 }
 
@@ -68,7 +53,7 @@ pub(crate) fn put_number(out: &mut [u8], field: Field, n: u32)
     requires { (1 ≤ field.0) × (field.0 ≤ 132) × (field.1 ≤ 6) }
     ensures { out.new ≡ fill field (marked_digits [] field.1 [] n) out.old }
 {
-    put_marked(&mut *out, field, b"", field.1, b"", n);
+    put_marked(out, field, b"", field.1, b"", n);
 }
 
 // The number that a field's columns say.

@@ -6,64 +6,65 @@ ghost use Rattle.fields.specs.Leg.{description_of, navaid_of, centre_fix_of, leg
 ghost use Rattle.fields.specs.Leg.{path_pieces, course_pieces, height_pieces, centre_pieces, render_leg};
 
 use crate::head::{Head, Tail, is_continuation_number};
-use crate::quantities::{
-    Altitude, ArcRadius, Course, Distance, Rho, Rnp, Speed, Theta, TransitionAltitude,
-    VerticalAngle,
-};
-use crate::text::{Letter, Word, byte_in, put_byte, put_if};
+use crate::part::Part;
+use crate::quantities::{Altitude, Course, Distance, quantity_in, vertical_angle_in};
+use crate::text::{Letter, Text, byte_in, letter_in, put_byte, put_if, word_in};
 use crate::turn::Turn;
+use crate::units::{
+    Feet, HundredthsOfDegree, Knots, Rnp, TenthsOfDegree, TenthsOfMile, ThousandthsOfMile,
+};
 use columns::field::Field;
 use leg::terminator::Terminator;
 
 // The codes of columns 40-43, in which a blank is a code too.
-#[derive(Clone, Copy)]
+#[derive(Clone, Copy, Debug, PartialEq, Eq)]
 pub struct Description(pub u8, pub u8, pub u8, pub u8);
 
 // The recommended navaid: columns 51-56, 79 and 80.
-#[derive(Clone, Copy)]
+#[derive(Clone, Copy, Debug, PartialEq, Eq)]
 pub struct Navaid {
-    pub identifier: Word,
-    pub icao: Word,
-    pub section: Letter,
+    pub identifier: Option<Text>,
+    pub icao: Option<Text>,
+    pub section: Option<Letter>,
     pub subsection: u8,
 }
 
 // Columns 107-116.
-#[derive(Clone, Copy)]
+#[derive(Clone, Copy, Debug, PartialEq, Eq)]
 pub struct CentreFix {
-    pub identifier: Word,
-    pub multiple: Letter,
-    pub icao: Word,
-    pub section: Letter,
+    pub identifier: Option<Text>,
+    pub multiple: Option<Letter>,
+    pub icao: Option<Text>,
+    pub section: Option<Letter>,
     pub subsection: u8,
 }
 
-#[derive(Clone, Copy)]
+#[derive(Clone, Copy, Debug, PartialEq, Eq)]
 pub struct Leg {
     pub head: Head,
     pub continuation: u8,
     pub description: Description,
-    pub turn: Turn,
-    pub rnp: Rnp,
+    pub turn: Option<Turn>,
+    pub rnp: Option<Rnp>,
     pub terminator: Terminator,
-    pub turn_valid: Letter,
+    pub turn_valid: Option<Letter>,
     pub navaid: Navaid,
-    pub arc_radius: ArcRadius,
-    pub theta: Theta,
-    pub rho: Rho,
-    pub course: Course,
-    pub distance: Distance,
+    pub arc_radius: Option<ThousandthsOfMile>,
+    pub theta: Option<TenthsOfDegree>,
+    pub rho: Option<TenthsOfMile>,
+    pub course: Option<Course>,
+    pub distance: Option<Distance>,
     pub altitude_description: u8,
-    pub atc: Letter,
-    pub altitude: Altitude,
-    pub second_altitude: Altitude,
-    pub transition_altitude: TransitionAltitude,
-    pub speed: Speed,
-    pub vertical_angle: VerticalAngle,
+    pub atc: Option<Letter>,
+    pub altitude: Option<Altitude>,
+    pub second_altitude: Option<Altitude>,
+    pub transition_altitude: Option<Feet>,
+    pub speed: Option<Knots>,
+    pub vertical_angle: Option<HundredthsOfDegree>,
     pub centre_fix: CentreFix,
-    pub gps: Letter,
-    pub qualifier: Letter,
-    pub second_qualifier: Letter,
+    pub gps: Option<Letter>,
+    pub qualifier: Option<Letter>,
+    pub second_qualifier: Option<Letter>,
     pub tail: Tail,
 }
 
@@ -85,9 +86,9 @@ impl Navaid {
         ensures { result ≡ navaid_of rec.now }
     {
         Navaid {
-            identifier: Word::of(rec, Field::NAVAID),
-            icao: Word::of(rec, Field::NAVAID_ICAO),
-            section: Letter::of(rec, Field::NAVAID_SECTION),
+            identifier: word_in(rec, Field::NAVAID),
+            icao: word_in(rec, Field::NAVAID_ICAO),
+            section: letter_in(rec, Field::NAVAID_SECTION),
             subsection: byte_in(rec, Field::NAVAID_SUBSECTION),
         }
     }
@@ -98,10 +99,10 @@ impl CentreFix {
         ensures { result ≡ centre_fix_of rec.now }
     {
         CentreFix {
-            identifier: Word::of(rec, Field::CENTRE_FIX),
-            multiple: Letter::of(rec, Field::CENTRE_FIX_MULTIPLE),
-            icao: Word::of(rec, Field::CENTRE_FIX_ICAO),
-            section: Letter::of(rec, Field::CENTRE_FIX_SECTION),
+            identifier: word_in(rec, Field::CENTRE_FIX),
+            multiple: letter_in(rec, Field::CENTRE_FIX_MULTIPLE),
+            icao: word_in(rec, Field::CENTRE_FIX_ICAO),
+            section: letter_in(rec, Field::CENTRE_FIX_SECTION),
             subsection: byte_in(rec, Field::CENTRE_FIX_SUBSECTION),
         }
     }
@@ -118,26 +119,26 @@ impl Leg {
             continuation: byte_in(rec, Field::CONTINUATION),
             description: Description::of(rec),
             turn: Turn::of(rec),
-            rnp: Rnp::of(rec),
-            terminator: terminator,
-            turn_valid: Letter::of(rec, Field::TURN_VALID),
+            rnp: quantity_in(rec, Field::RNP),
+            terminator,
+            turn_valid: letter_in(rec, Field::TURN_VALID),
             navaid: Navaid::of(rec),
-            arc_radius: ArcRadius::of(rec),
-            theta: Theta::of(rec),
-            rho: Rho::of(rec),
+            arc_radius: quantity_in(rec, Field::ARC_RADIUS),
+            theta: quantity_in(rec, Field::THETA),
+            rho: quantity_in(rec, Field::RHO),
             course: Course::of(rec),
             distance: Distance::of(rec, terminator),
             altitude_description: byte_in(rec, Field::ALTITUDE_DESCRIPTION),
-            atc: Letter::of(rec, Field::ATC),
+            atc: letter_in(rec, Field::ATC),
             altitude: Altitude::of(rec, Field::ALTITUDE),
             second_altitude: Altitude::of(rec, Field::SECOND_ALTITUDE),
-            transition_altitude: TransitionAltitude::of(rec),
-            speed: Speed::of(rec),
-            vertical_angle: VerticalAngle::of(rec),
+            transition_altitude: quantity_in(rec, Field::TRANSITION_ALTITUDE),
+            speed: quantity_in(rec, Field::SPEED),
+            vertical_angle: vertical_angle_in(rec),
             centre_fix: CentreFix::of(rec),
-            gps: Letter::of(rec, Field::GPS),
-            qualifier: Letter::of(rec, Field::QUALIFIER),
-            second_qualifier: Letter::of(rec, Field::SECOND_QUALIFIER),
+            gps: letter_in(rec, Field::GPS),
+            qualifier: letter_in(rec, Field::QUALIFIER),
+            second_qualifier: letter_in(rec, Field::SECOND_QUALIFIER),
             tail: Tail::of(rec),
         }
     }
@@ -146,109 +147,78 @@ impl Leg {
     fn put_path(self, out: &mut [u8])
         ensures { out.new ≡ put_all (path_pieces self) out.old }
     {
-        let turn = self.turn;
-        let rnp = self.rnp;
-        let terminator = self.terminator;
-        let turn_valid = self.turn_valid;
-        let navaid = self.navaid;
-        let identifier = navaid.identifier;
-        let icao = navaid.icao;
         let primary = !is_continuation_number(self.continuation);
-        put_if(&mut *out, Field::CONTINUATION, primary, self.continuation);
-        put_byte(&mut *out, Field::FIRST_DESCRIPTION, self.description.0);
-        put_byte(&mut *out, Field::SECOND_DESCRIPTION, self.description.1);
-        put_byte(&mut *out, Field::THIRD_DESCRIPTION, self.description.2);
-        put_byte(&mut *out, Field::FOURTH_DESCRIPTION, self.description.3);
-        turn.put(&mut *out);
-        rnp.put(&mut *out);
-        terminator.put(&mut *out);
-        turn_valid.put(&mut *out, Field::TURN_VALID);
-        identifier.put(&mut *out, Field::NAVAID);
-        icao.put(&mut *out, Field::NAVAID_ICAO);
+        put_if(out, Field::CONTINUATION, primary, self.continuation);
+        put_byte(out, Field::FIRST_DESCRIPTION, self.description.0);
+        put_byte(out, Field::SECOND_DESCRIPTION, self.description.1);
+        put_byte(out, Field::THIRD_DESCRIPTION, self.description.2);
+        put_byte(out, Field::FOURTH_DESCRIPTION, self.description.3);
+        self.turn.put(out, Field::TURN);
+        self.rnp.put(out, Field::RNP);
+        self.terminator.put(out);
+        self.turn_valid.put(out, Field::TURN_VALID);
+        self.navaid.identifier.put(out, Field::NAVAID);
+        self.navaid.icao.put(out, Field::NAVAID_ICAO);
     }
 
     // Columns 57-82.
     fn put_course(self, out: &mut [u8])
         ensures { out.new ≡ put_all (course_pieces self) out.old }
     {
-        let arc_radius = self.arc_radius;
-        let theta = self.theta;
-        let rho = self.rho;
-        let course = self.course;
-        let distance = self.distance;
-        let navaid = self.navaid;
-        let section = navaid.section;
-        arc_radius.put(&mut *out);
-        theta.put(&mut *out);
-        rho.put(&mut *out);
-        course.put(&mut *out);
-        distance.put(&mut *out);
-        section.put(&mut *out, Field::NAVAID_SECTION);
-        put_byte(&mut *out, Field::NAVAID_SUBSECTION, navaid.subsection);
+        self.arc_radius.put(out, Field::ARC_RADIUS);
+        self.theta.put(out, Field::THETA);
+        self.rho.put(out, Field::RHO);
+        self.course.put(out, Field::COURSE);
+        self.distance.put(out, Field::DISTANCE);
+        self.navaid.section.put(out, Field::NAVAID_SECTION);
+        put_byte(out, Field::NAVAID_SUBSECTION, self.navaid.subsection);
     }
 
     // Columns 83-106.
     fn put_height(self, out: &mut [u8])
         ensures { out.new ≡ put_all (height_pieces self) out.old }
     {
-        let atc = self.atc;
-        let altitude = self.altitude;
-        let second_altitude = self.second_altitude;
-        let transition_altitude = self.transition_altitude;
-        let speed = self.speed;
-        let vertical_angle = self.vertical_angle;
-        put_byte(
-            &mut *out,
-            Field::ALTITUDE_DESCRIPTION,
-            self.altitude_description,
-        );
-        atc.put(&mut *out, Field::ATC);
-        altitude.put(&mut *out, Field::ALTITUDE);
-        second_altitude.put(&mut *out, Field::SECOND_ALTITUDE);
-        transition_altitude.put(&mut *out);
-        speed.put(&mut *out);
-        vertical_angle.put(&mut *out);
+        put_byte(out, Field::ALTITUDE_DESCRIPTION, self.altitude_description);
+        self.atc.put(out, Field::ATC);
+        self.altitude.put(out, Field::ALTITUDE);
+        self.second_altitude.put(out, Field::SECOND_ALTITUDE);
+        self.transition_altitude
+            .put(out, Field::TRANSITION_ALTITUDE);
+        self.speed.put(out, Field::SPEED);
+        self.vertical_angle.put(out, Field::VERTICAL_ANGLE);
     }
 
     // Columns 107-123.
     fn put_centre(self, out: &mut [u8])
         ensures { out.new ≡ put_all (centre_pieces self) out.old }
     {
-        let centre_fix = self.centre_fix;
-        let identifier = centre_fix.identifier;
-        let multiple = centre_fix.multiple;
-        let icao = centre_fix.icao;
-        let section = centre_fix.section;
-        let gps = self.gps;
-        let qualifier = self.qualifier;
-        let second_qualifier = self.second_qualifier;
-        identifier.put(&mut *out, Field::CENTRE_FIX);
-        multiple.put(&mut *out, Field::CENTRE_FIX_MULTIPLE);
-        icao.put(&mut *out, Field::CENTRE_FIX_ICAO);
-        section.put(&mut *out, Field::CENTRE_FIX_SECTION);
+        self.centre_fix.identifier.put(out, Field::CENTRE_FIX);
+        self.centre_fix
+            .multiple
+            .put(out, Field::CENTRE_FIX_MULTIPLE);
+        self.centre_fix.icao.put(out, Field::CENTRE_FIX_ICAO);
+        self.centre_fix.section.put(out, Field::CENTRE_FIX_SECTION);
         put_byte(
-            &mut *out,
+            out,
             Field::CENTRE_FIX_SUBSECTION,
-            centre_fix.subsection,
+            self.centre_fix.subsection,
         );
-        gps.put(&mut *out, Field::GPS);
-        qualifier.put(&mut *out, Field::QUALIFIER);
-        second_qualifier.put(&mut *out, Field::SECOND_QUALIFIER);
+        self.gps.put(out, Field::GPS);
+        self.qualifier.put(out, Field::QUALIFIER);
+        self.second_qualifier.put(out, Field::SECOND_QUALIFIER);
     }
 
     // The record of the leg, whether it is legal or not.
     pub fn render(self) -> [u8; 132]
         ensures { result ≡ render_leg self }
     {
-        let head = self.head;
-        let tail = self.tail;
         let mut out = [b' '; 132];
-        head.put(&mut out);
+        self.head.put(&mut out);
         self.put_path(&mut out);
         self.put_course(&mut out);
         self.put_height(&mut out);
         self.put_centre(&mut out);
-        tail.put(&mut out);
+        self.tail.put(&mut out);
         out
     }
 }

@@ -1,32 +1,23 @@
-// Text as bytes by value, and what may be absent: a word, a letter. A text may have any bytes; those that no legal record holds are
-// refused when it is written. Assumes of its callers, all in this crate, that columns count from 1 and a field of text has at most six.
+// Text as bytes by value, and a letter; both may be absent. They may have any bytes: those that no legal record holds are refused when
+// they are written. Assumes of its callers, all in this crate, that columns count from 1 and a field of text has at most six.
 ghost use Rattle.std.specs.Prelude.{◌≡◌, [], ◌∷◌, ◌+◌, ◌-◌, ◌≤◌, get_or};
 ghost use Rattle.slices.specs.Part.{blank};
 ghost use Rattle.columns.specs.Rows.{byte_in, field_at};
 ghost use Rattle.columns.specs.Fields.{bytes_in};
 ghost use Rattle.fields.specs.Pieces.{or_zero, fill};
-ghost use Rattle.fields.specs.Text.{text_of, text_bytes, word_of, word_bytes, letter_of, letter_bytes};
+ghost use Rattle.fields.specs.Text.{text_of, text_bytes, word_of, bytes_of_word, letter_of, bytes_of_letter};
 
+use crate::part::Part;
 use columns::field::Field;
 use slices::{byte_after, byte_at, copy, is_blank, put_after};
 
 // Up to six bytes from the left, blanks behind them.
-#[derive(Clone, Copy)]
+#[derive(Clone, Copy, Debug, PartialEq, Eq)]
 pub struct Text(pub u8, pub u8, pub u8, pub u8, pub u8, pub u8);
 
-// A text that may be absent.
-#[derive(Clone, Copy)]
-pub enum Word {
-    Absent,
-    Is(Text),
-}
-
-// A letter or digit that may be absent.
-#[derive(Clone, Copy)]
-pub enum Letter {
-    Absent,
-    Is(u8),
-}
+// A letter or digit.
+#[derive(Clone, Copy, Debug, PartialEq, Eq)]
+pub struct Letter(pub u8);
 
 // The byte in a field's first column.
 pub(crate) fn byte_in(rec: &[u8], field: Field) -> u8
@@ -69,7 +60,7 @@ pub(crate) fn put_byte(out: &mut [u8], field: Field, b: u8)
     requires { 1 ≤ field.0 }
     ensures { out.new ≡ fill field (b ∷ []) out.old }
 {
-    put_after(&mut *out, field.0 - 1, 0, b);
+    put_after(out, field.0 - 1, 0, b);
 }
 
 // Puts a byte that is right in its column; one that is not leaves a byte 0, which is legal nowhere.
@@ -78,100 +69,84 @@ pub(crate) fn put_if(out: &mut [u8], field: Field, right: bool, b: u8)
     ensures { out.new ≡ fill field (or_zero right (b ∷ [])) out.old }
 {
     if right {
-        put_byte(&mut *out, field, b);
+        put_byte(out, field, b);
     } else {
-        put_byte(&mut *out, field, 0);
+        put_byte(out, field, 0);
     }
 }
 
-impl Text {
-    // The text in a field.
-    pub(crate) fn of(rec: &[u8], field: Field) -> Text
-        requires { 1 ≤ field.0 }
-        ensures { result ≡ text_of (bytes_in field rec.now) }
-    {
-        Text(
-            byte_or_blank(rec, field, 0),
-            byte_or_blank(rec, field, 1),
-            byte_or_blank(rec, field, 2),
-            byte_or_blank(rec, field, 3),
-            byte_or_blank(rec, field, 4),
-            byte_or_blank(rec, field, 5),
-        )
-    }
+// The text in a field.
+pub(crate) fn text_in(rec: &[u8], field: Field) -> Text
+    requires { 1 ≤ field.0 }
+    ensures { result ≡ text_of (bytes_in field rec.now) }
+{
+    Text(
+        byte_or_blank(rec, field, 0),
+        byte_or_blank(rec, field, 1),
+        byte_or_blank(rec, field, 2),
+        byte_or_blank(rec, field, 3),
+        byte_or_blank(rec, field, 4),
+        byte_or_blank(rec, field, 5),
+    )
+}
 
-    // Puts the text into a field; one that is longer leaves a byte 0, which is legal nowhere.
-    pub(crate) fn put(self, out: &mut [u8], field: Field)
-        requires { (1 ≤ field.0) × (field.1 ≤ 6) }
-        ensures { out.new ≡ fill field (text_bytes field.1 self) out.old }
-    {
+// Puts a text that may be blank; one that is longer than its field leaves a byte 0, which is legal nowhere.
+pub(crate) fn put_text(out: &mut [u8], field: Field, text: Text)
+    requires { (1 ≤ field.0) × (field.1 ≤ 6) }
+    ensures { out.new ≡ fill field (text_bytes field.1 text) out.old }
+{
+    let bytes = [text.0, text.1, text.2, text.3, text.4, text.5];
+    if is_blank(&bytes, field.1, 6 - field.1) {
+        copy(&bytes, 0, out, field.0 - 1, field.1);
+    } else {
+        put_byte(out, field, 0);
+    }
+}
+
+// The text in a field that may be blank.
+#[tactic(auto, unfolding(crate::specs::Optional::unless_blank))]
+pub(crate) fn word_in(rec: &[u8], field: Field) -> Option<Text>
+    requires { 1 ≤ field.0 }
+    ensures { result ≡ word_of (bytes_in field rec.now) }
+{
+    if blank_in(rec, field) {
+        None
+    } else {
+        Some(text_in(rec, field))
+    }
+}
+
+// The letter in a field that may be blank.
+#[tactic(auto, unfolding(crate::specs::Optional::unless_blank, slices::specs::Part::part, slices::specs::Part::blank))]
+pub(crate) fn letter_in(rec: &[u8], field: Field) -> Option<Letter>
+    requires { 1 ≤ field.0 }
+    ensures { result ≡ letter_of (field_at field.0 1 rec.now) }
+{
+    let b = byte_in(rec, field);
+    if b == b' ' { None } else { Some(Letter(b)) }
+}
+
+// A text of blanks alone leaves a byte 0: reading would find it absent.
+impl Part for Text {
+    ghost bytes = { bytes_of_word };
+
+    #[tactic(auto, unfolding(crate::specs::Text::bytes_of_word, crate::specs::Text::bytes_of, slices::specs::Part::part))]
+    fn put(self, out: &mut [u8], field: Field) {
         let bytes = [self.0, self.1, self.2, self.3, self.4, self.5];
-        if is_blank(&bytes, field.1, 6 - field.1) {
-            copy(&bytes, 0, &mut *out, field.0 - 1, field.1);
+        if is_blank(&bytes, 0, 6) {
+            put_byte(out, field, 0);
         } else {
-            put_byte(&mut *out, field, 0);
+            put_text(out, field, self);
         }
     }
 }
 
-impl Word {
-    pub(crate) fn of(rec: &[u8], field: Field) -> Word
-        requires { 1 ≤ field.0 }
-        ensures { result ≡ word_of (bytes_in field rec.now) }
-    {
-        if blank_in(rec, field) {
-            Word::Absent
-        } else {
-            Word::Is(Text::of(rec, field))
-        }
-    }
+// A blank leaves a byte 0: reading would find it absent.
+impl Part for Letter {
+    ghost bytes = { λ w v. bytes_of_letter v };
 
-    // Puts the word into a field, nothing where it is absent. A word of blanks alone leaves a byte 0: reading would find it absent.
-    pub(crate) fn put(self, out: &mut [u8], field: Field)
-        requires { (1 ≤ field.0) × (field.1 ≤ 6) }
-        ensures { out.new ≡ fill field (word_bytes field.1 self) out.old }
-    {
-        match self {
-            Word::Absent => {}
-            Word::Is(t) => {
-                let bytes = [t.0, t.1, t.2, t.3, t.4, t.5];
-                if is_blank(&bytes, 0, 6) {
-                    put_byte(&mut *out, field, 0);
-                } else {
-                    t.put(&mut *out, field);
-                }
-            }
-        }
-    }
-}
-
-impl Letter {
-    pub(crate) fn of(rec: &[u8], field: Field) -> Letter
-        requires { 1 ≤ field.0 }
-        ensures { result ≡ letter_of (field_at field.0 1 rec.now) }
-    {
-        let b = byte_in(rec, field);
-        if b == b' ' {
-            Letter::Absent
-        } else {
-            Letter::Is(b)
-        }
-    }
-
-    // Puts the letter, nothing where it is absent. A blank leaves a byte 0: reading would find it absent.
-    pub(crate) fn put(self, out: &mut [u8], field: Field)
-        requires { 1 ≤ field.0 }
-        ensures { out.new ≡ fill field (letter_bytes self) out.old }
-    {
-        match self {
-            Letter::Absent => {}
-            Letter::Is(b) => {
-                if b == b' ' {
-                    put_byte(&mut *out, field, 0);
-                } else {
-                    put_byte(&mut *out, field, b);
-                }
-            }
-        }
+    #[tactic(auto, unfolding(crate::specs::Text::bytes_of_letter))]
+    fn put(self, out: &mut [u8], field: Field) {
+        put_if(out, field, self.0 != b' ', self.0);
     }
 }

@@ -1,16 +1,14 @@
-// The turn of a leg. Assumes nothing of the caller.
+// The turn of a leg. Assumes nothing of the caller, but that a turn's field is one that `Part` puts into.
 ghost use Rattle.std.specs.Prelude.{◌≡◌};
-ghost use Rattle.columns.specs.Fields.{field};
 ghost use Rattle.columns.specs.Words.{columns};
-ghost use Rattle.fields.specs.Pieces.{fill};
-ghost use Rattle.fields.specs.Turn.{turn_of, turn_bytes};
+ghost use Rattle.fields.specs.Turn.{turn_of, bytes_of_turn};
 
+use crate::part::Part;
 use crate::text::{byte_in, put_byte};
 use columns::field::Field;
 
-#[derive(Clone, Copy)]
+#[derive(Clone, Copy, Debug, PartialEq, Eq)]
 pub enum Turn {
-    Absent,
     Left,
     Right,
     Either,
@@ -18,30 +16,28 @@ pub enum Turn {
 
 impl Turn {
     // The turn in column 44.
-    pub(crate) fn of(rec: &[u8]) -> Turn
+    #[tactic(auto, unfolding(crate::specs::Turn::turn_of, slices::specs::Part::part))]
+    pub(crate) fn of(rec: &[u8]) -> Option<Turn>
         ensures { result ≡ turn_of (columns 44 44 rec.now) }
     {
-        let b = byte_in(rec, Field::TURN);
-        if b == b'L' {
-            return Turn::Left;
+        match byte_in(rec, Field::TURN) {
+            b'L' => Some(Turn::Left),
+            b'R' => Some(Turn::Right),
+            b'E' => Some(Turn::Either),
+            _ => None,
         }
-        if b == b'R' {
-            return Turn::Right;
-        }
-        if b == b'E' {
-            return Turn::Either;
-        }
-        Turn::Absent
     }
+}
 
-    pub(crate) fn put(self, out: &mut [u8])
-        ensures { out.new ≡ fill (field 44 44) (turn_bytes self) out.old }
-    {
+impl Part for Turn {
+    ghost bytes = { λ w v. bytes_of_turn v };
+
+    #[tactic(auto, unfolding(crate::specs::Turn::bytes_of_turn))]
+    fn put(self, out: &mut [u8], field: Field) {
         match self {
-            Turn::Absent => {}
-            Turn::Left => put_byte(&mut *out, Field::TURN, b'L'),
-            Turn::Right => put_byte(&mut *out, Field::TURN, b'R'),
-            Turn::Either => put_byte(&mut *out, Field::TURN, b'E'),
+            Turn::Left => put_byte(out, field, b'L'),
+            Turn::Right => put_byte(out, field, b'R'),
+            Turn::Either => put_byte(out, field, b'E'),
         }
     }
 }

@@ -22,10 +22,8 @@ use Rattle.columns.specs.declared.field.Field.{Field}
 use Rattle.columns.specs.Words.{columns, Content, PrimaryContent}
 use Rattle.columns.proofs.BadByte.{byte_legal}
 use Rattle.columns.proofs.Content.{legal, primary_kind, continuation_kind}
-use Rattle.refusals.specs.Table.{field_content, companion_blank, needed_blank}
+use Rattle.refusals.specs.Table.{field_content, companion_blank, needed_blank, Verdict, Accepted, Refused}
 use Rattle.refusals.specs.declared.Refusal.{Refusal}
-use Rattle.refusals.specs.declared.Verdict.{Verdict}
-use Rattle.refusals.specs.declared.Verdict.TheVariants.{Accepted, Refused}
 use Rattle.leg.specs.Terminator.{terminator_of, name_of, needed}
 use Rattle.leg.specs.declared.terminator.Terminator.{Terminator}
 use Rattle.leg.specs.Stages.{odd_one, companion_column, needable, asks, missing, needed_of, needed_column}

@@ -1,5 +1,6 @@
 -- What one stage does: refuse by the column that it found, or hand on; and how it finds the column.
 -- Assumes nothing.
+use Rattle.refusals.specs.Table.{Verdict, Refused}
 use mathlib.Core.Path.{◌≡◌, refl, sym, ap, ◌∙◌}
 use mathlib.Core.Bool.{Bool, true, false, not, ◌&&◌, ◌||◌}
 use mathlib.Core.List.{List, [], ◌∷◌}
@@ -19,8 +20,6 @@ use Rattle.columns.specs.Rows.{byte_in}
 use Rattle.columns.specs.Words.{columns}
 use Rattle.columns.specs.declared.field.Field.{Field}
 use Rattle.refusals.specs.declared.Refusal.{Refusal}
-use Rattle.refusals.specs.declared.Verdict.{Verdict}
-use Rattle.refusals.specs.declared.Verdict.TheVariants.{Refused}
 use Rattle.leg.specs.Judge.{stage}
 use Rattle.leg.specs.Stages.{odd_one, needable, asks_by, asks, missing, needed_of, needed_column}
 use Rattle.leg.specs.Terminator.{terminator_number, terminator_of, in_line}

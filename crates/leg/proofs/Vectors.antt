@@ -16,9 +16,8 @@ use Rattle.columns.specs.Stops.{run, longest}
 use Rattle.columns.specs.Layout.{primary, continuation}
 use Rattle.columns.specs.Kinds.{kind_of, layout_of, first_bad_field, bad_byte}
 use Rattle.columns.specs.Samples.{◌at◌is◌, approach, full, notes}
-use Rattle.refusals.specs.Table.{refusal, stated}
+use Rattle.refusals.specs.Table.{refusal, stated, Verdict}
 use Rattle.refusals.specs.declared.Refusal.{Refusal}
-use Rattle.refusals.specs.declared.Verdict.{Verdict}
 use Rattle.leg.specs.Terminator.{in_order, terminator_at, terminator_of, needs, needed}
 use Rattle.leg.specs.Stages.{odd_one, missing, companion_column, needed_of, needed_column}
 use Rattle.leg.specs.Judge.{stage, judged_leg, judged, judged_parts}

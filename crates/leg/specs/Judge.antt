@@ -4,10 +4,8 @@ use Rattle.std.specs.Prelude.{ℕ, cond, List, eqb}
 use Rattle.columns.specs.Kinds.{kind_of, first_bad_field, bad_byte}
 use Rattle.columns.specs.declared.Kind.{Kind}
 use Rattle.columns.specs.declared.Kind.TheVariants.{Primary, Continuation}
-use Rattle.refusals.specs.Table.{field_content, companion_blank, needed_blank}
+use Rattle.refusals.specs.Table.{field_content, companion_blank, needed_blank, Verdict, Accepted, Refused}
 use Rattle.refusals.specs.declared.Refusal.{Refusal}
-use Rattle.refusals.specs.declared.Verdict.{Verdict}
-use Rattle.refusals.specs.declared.Verdict.TheVariants.{Accepted, Refused}
 use Rattle.leg.specs.Stages.{companion_column, needed_column}
 
 -- a stage that found a column refuses by it; where it found none, 0, the next one is asked

@@ -17,13 +17,13 @@ fn judge_leg(rec: &[u8], place: usize) -> Verdict
 {
     let column = stages::companion_column(rec);
     if column != 0 {
-        return Verdict::Refused(Refusal::companion_blank(place, column));
+        return Err(Refusal::companion_blank(place, column));
     }
     let column = stages::needed_column(rec);
     if column != 0 {
-        return Verdict::Refused(Refusal::needed_blank(place, column));
+        return Err(Refusal::needed_blank(place, column));
     }
-    Verdict::Accepted
+    Ok(())
 }
 
 // All three stages, of which the first found a column, or 0.
@@ -31,12 +31,12 @@ fn judge_by(column: usize, rec: &[u8], place: usize) -> Verdict
     ensures { result ≡ judged_by column place rec.now }
 {
     if column != 0 {
-        return Verdict::Refused(Refusal::field_content(place, column));
+        return Err(Refusal::field_content(place, column));
     }
     let kind = columns::kind_of(rec);
     match kind {
         Kind::Primary => judge_leg(rec, place),
-        Kind::Continuation => Verdict::Accepted,
+        Kind::Continuation => Ok(()),
     }
 }
 

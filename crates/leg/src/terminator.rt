@@ -10,7 +10,7 @@ ghost use Rattle.leg.specs.Terminator.{terminator_number, in_line, name_of, term
 use columns::field::Field;
 use slices::{byte_at, copy, has};
 
-#[derive(Clone, Copy)]
+#[derive(Clone, Copy, Debug, PartialEq, Eq)]
 pub enum Terminator {
     Af,
     Ca,

@@ -7,70 +7,28 @@ use native.Mathlib.Omega.{arith}
 use native.Mathlib.Decide.{dec_lt}
 use lib.ListN.{length, get_or, take, drop, set, replicate, length-append, length-set}
 use lib.Seq.{sets, sets-eq, set_at, take_at, drop-cons, length-sets, length-take-le}
-use borrow.Author.Tests.{ne_eqb, lt-ltb, le-ltb}
+use borrow.Author.Tests.{lt-ltb, le-ltb}
 use Rattle.slices.specs.Part.{part}
 use Rattle.slices.proofs.PartLaws.{part_all}
-use Rattle.columns.specs.Kinds.{kind_of}
-use Rattle.columns.specs.declared.Kind.{Kind}
-use Rattle.columns.specs.declared.Kind.TheVariants as kind
-use Rattle.refusals.specs.Table.{cut_short, buffer_too_short}
+use Rattle.refusals.specs.Table.{cut_short, buffer_too_short, Verdict, Accepted, Refused}
 use Rattle.refusals.specs.declared.Refusal.{Refusal}
-use Rattle.refusals.specs.declared.Verdict.{Verdict}
-use Rattle.refusals.specs.declared.Verdict.TheVariants.{Accepted, Refused}
-use Rattle.leg.specs.Judge.{stage, judged, judged_parts}
-use Rattle.parts.specs.Record.{size_column, columns_of, alone, refused_reading, leg_reading, continuation_reading, reading_by_kind, reading_of, writing, written_by, written}
-use Rattle.parts.specs.declared.Reading.{Reading}
+use Rattle.leg.specs.Judge.{stage, judged_parts}
+use Rattle.leg.proofs.Legality.{stage_iff}
+use Rattle.parts.specs.Record.{size_column, writing, written_by, written}
 
 -- ---- the size of one record alone
 
-module _ (s : List ℕ) where
-  pub size_short : length s < 133 → length s + 1 ≡ size_column s
-  unfolding size_column
-  size_short h = rw (lt-ltb (length s) 133 h)
-
-  pub size_no_feed : 133 ≤ length s → (get_or s 132 0 ≡ 10 → ⊥) → 133 ≡ size_column s
-  unfolding size_column
-  size_no_feed h f = rw (le-ltb (length s) 133 h, ne_eqb (get_or s 132 0) 10 f)
-
-  pub size_long : get_or s 132 0 ≡ 10 → 133 < length s → 134 ≡ size_column s
-  unfolding size_column
-  size_long f h = rw (le-ltb (length s) 133 (omega arith), f, lt-ltb 133 (length s) h)
-
-  pub size_right : 133 ≤ length s → get_or s 132 0 ≡ 10 → length s ≤ 133 → 0 ≡ size_column s
-  unfolding size_column
-  size_right k f h = rw (le-ltb (length s) 133 k, f, le-ltb 133 (length s) h)
-
 -- a slice of the right size has the record's columns
-pub columns_count : (s : List ℕ) {n : ℕ} → n ≡ size_column s → n ≡ 0 → 132 ≡ length (take 132 s)
+pub columns_count : (s : List ℕ) {v : Verdict} → v ≡ stage (size_column s) (cut_short 1) Accepted → v ≡ Accepted → 132 ≡ length (take 132 s)
 unfolding size_column
 columns_count s e z = by (dec_lt (length s) 133)
   where
+    right : size_column s ≡ 0
+    right = ((stage_iff (size_column s) (cut_short 1) Accepted).0 (sym e ∙ z)).0
+
     by : Dec (length s < 133) → 132 ≡ length (take 132 s)
-    by (yes h) = let f : 0 ≡ length s + 1 = sym z ∙ e ∙ rw (lt-ltb (length s) 133 h) in absurd (omega arith)
+    by (yes h) = let f : 0 ≡ length s + 1 = sym right ∙ rw (lt-ltb (length s) 133 h) in absurd (omega arith)
     by (no h) = sym (length-take-le 132 s (omega arith))
-
--- ---- reading
-
-module _ (rec : List ℕ) {k : Kind} (e : k ≡ kind_of rec) {x : Reading} where
-  pub answer_leg : k ≡ kind.Primary → x ≡ leg_reading rec → x ≡ reading_by_kind (kind_of rec) rec
-  answer_leg h f = rw (← e, h) f
-
-  pub answer_continuation : k ≡ kind.Continuation → x ≡ continuation_reading rec → x ≡ reading_by_kind (kind_of rec) rec
-  answer_continuation h f = rw (← e, h) f
-
-module _ (s : List ℕ) {n : ℕ} {x : Reading} (e : n ≡ size_column s) where
-  pub answer_cut : (n ≡ 0 → ⊥) → x ≡ refused_reading (cut_short 1 n) → x ≡ reading_of s
-  unfolding reading_of alone stage
-  answer_cut h f = f ∙ rw (← e, ne_eqb n 0 h)
-
-  module _ (z : n ≡ 0) {v : Verdict} (j : v ≡ judged 1 (columns_of s)) where
-    pub answer_accepted : v ≡ Accepted → x ≡ reading_by_kind (kind_of (columns_of s)) (columns_of s) → x ≡ reading_of s
-    unfolding reading_of alone stage
-    answer_accepted h f = f ∙ rw (← e, z, ← j, h)
-
-    pub answer_refused : {r : Refusal} → v ≡ Refused r → x ≡ refused_reading r → x ≡ reading_of s
-    unfolding reading_of alone stage
-    answer_refused h f = f ∙ rw (← e, z, ← j, h)
 
 -- ---- writing
 

@@ -1,5 +1,6 @@
 -- What the customer must believe of one record alone, read and written.
 -- Assumes nothing.
+use Rattle.std.specs.Prelude.{Ok, Err}
 use mathlib.Core.Path.{◌≡◌, refl, sym, ap, subst, ◌∙◌}
 use mathlib.Core.Bool.{cond}
 use mathlib.Core.Logic.{◌↔◌, inl, inr}
@@ -15,25 +16,19 @@ use Rattle.slices.specs.Part.{part}
 use Rattle.slices.proofs.Cases.{split}
 use Rattle.slices.proofs.PartLaws.{part_all}
 use Rattle.columns.specs.Words.{ContinuationContent}
-use Rattle.columns.specs.Kinds.{kind_of}
-use Rattle.columns.specs.declared.Kind.{Kind}
-use Rattle.columns.specs.declared.Kind.TheVariants as kind
 use Rattle.columns.proofs.Content.{primary_kind, continuation_kind}
-use Rattle.refusals.specs.Table.{cut_short}
+use Rattle.refusals.specs.Table.{cut_short, Verdict, Accepted, Refused}
 use Rattle.refusals.specs.declared.Refusal.{Refusal}
-use Rattle.refusals.specs.declared.Verdict.{Verdict}
-use Rattle.refusals.specs.declared.Verdict.TheVariants.{Accepted, Refused}
 use Rattle.leg.specs.Judge.{judged}
 use Rattle.leg.specs.Legal.{LegalLeg, Legal}
 use Rattle.leg.proofs.Legality.{accepted_iff, parts_accepted_iff, stage_iff}
 use Rattle.fields.specs.Leg.{leg_of, leg_pieces, render_leg}
 use Rattle.fields.specs.Continuation.{continuation_of, content_of, continuation_pieces, render_continuation}
-use Rattle.parts.specs.Record.{size_column, columns_of, alone, refused_reading, reading_by, reading_by_kind, leg_reading, continuation_reading, reading_of, writing, written_by, written}
+use Rattle.parts.specs.Record.{size_column, columns_of, Reading, verdict_of, alone, reading_by, reading_of, writing, written_by, written}
 use Rattle.parts.specs.Given.{Alone, LegGiven, ContinuationGiven}
 use Rattle.fields.specs.declared.primary.Leg.{Leg}
 use Rattle.fields.specs.declared.continuation.Continuation.{Continuation}
 use Rattle.parts.specs.declared.Parts.TheVariants as parts
-use Rattle.parts.specs.declared.Reading.{Reading}
 use Rattle.fields.proofs.PieceLaws.{length_made}
 use Rattle.fields.proofs.RoundTrip.{leg_round, continuation_round, leg_again, continuation_again, leg_kind, continuation_not_primary}
 
@@ -140,15 +135,15 @@ read_iff s = (
 )
 
 -- and then its parts are given
-pub leg_read_lem : (rec s : List ℕ) → Alone rec s → LegalLeg rec → reading_of s ≡ record { verdict = Accepted; parts = parts.Leg (leg_of rec); content = replicate 83 0 }
-unfolding reading_of leg_reading
+pub leg_read_lem : (rec s : List ℕ) → Alone rec s → LegalLeg rec → reading_of s ≡ Ok (parts.Leg (leg_of rec))
+unfolding reading_of
 leg_read_lem rec s a h =
     let v : alone s ≡ Accepted = (read_iff s).1 (rec, a, inl h) in
     rw (v, (size_right rec s a).1, primary_kind rec h.content)
 
 pub continuation_read : (rec s : List ℕ) → Alone rec s → ContinuationContent rec
-    → reading_of s ≡ record { verdict = Accepted; parts = parts.Continuation (continuation_of rec); content = content_of rec }
-unfolding reading_of continuation_reading
+    → reading_of s ≡ Ok (parts.Continuation (continuation_of rec) (content_of rec))
+unfolding reading_of
 continuation_read rec s a h =
     let v : alone s ≡ Accepted = (read_iff s).1 (rec, a, inr h) in
     rw (v, (size_right rec s a).1, continuation_kind rec h)
@@ -164,38 +159,34 @@ first_record n rec l e =
     ∙ take_at (rec ++ (10 ∷ [])) z 133 (length-append rec (10 ∷ []) ∙ ap (λ (k : ℕ). k + 1) l)
 
 pub leg_written_read : (g : Leg) (n : ℕ) → 133 ≤ n → writing n (render_leg g) ≡ Accepted
-    → reading_of (take 133 (written n (render_leg g))) ≡ record { verdict = Accepted; parts = parts.Leg g; content = replicate 83 0 }
+    → reading_of (take 133 (written n (render_leg g))) ≡ Ok (parts.Leg g)
 leg_written_read g n h e =
     let l : LegalLeg (render_leg g) = legal_leg g ((writing_iff n (render_leg g) h).0 e) in
     leg_read_lem (render_leg g) (take 133 (written n (render_leg g))) (length_leg g, first_record n (render_leg g) (length_leg g) e) l
-    ∙ ap (λ (x : Leg). record { verdict = Accepted; parts = parts.Leg x; content = replicate 83 0 }) (leg_again g l.content)
+    ∙ ap (λ (x : Leg). Ok (parts.Leg x)) (leg_again g l.content)
 
 pub continuation_written_read : (c : Continuation) (content : List ℕ) (n : ℕ) → length content ≡ 83 → 133 ≤ n → writing n (render_continuation c content) ≡ Accepted
-    → reading_of (take 133 (written n (render_continuation c content))) ≡ record { verdict = Accepted; parts = parts.Continuation c; content = content }
+    → reading_of (take 133 (written n (render_continuation c content))) ≡ Ok (parts.Continuation c content)
 continuation_written_read c content n k h e =
     let rec = render_continuation c content in
     let l : ContinuationContent rec = legal_continuation c content ((writing_iff n rec h).0 e) in
     let a = continuation_again c content k l in
     continuation_read rec (take 133 (written n rec)) (length_continuation c content, first_record n rec (length_continuation c content) e) l
-    ∙ (λ j. record { verdict = Accepted; parts = parts.Continuation (a.0 j); content = a.1 j })
+    ∙ (λ j. Ok (parts.Continuation (a.0 j) (a.1 j)))
 
 -- ---- reading, and writing what was read
 
 -- the verdict of a reading is that of the record alone
-pub reading_verdict : (s : List ℕ) → (reading_of s).verdict ≡ alone s
-unfolding reading_of refused_reading leg_reading continuation_reading
+pub reading_verdict : (s : List ℕ) → verdict_of (reading_of s) ≡ alone s
+unfolding reading_of
 reading_verdict s = by (alone s)
   where
-    kinds : (k : Kind) (rec : List ℕ) → (reading_by_kind k rec).verdict ≡ Accepted
-    kinds kind.Primary rec = refl
-    kinds kind.Continuation rec = refl
-
-    by : (v : Verdict) → (reading_by v (columns_of s)).verdict ≡ v
-    by Accepted = kinds (kind_of (columns_of s)) (columns_of s)
-    by (Refused r) = refl
+    by : (v : Verdict) → verdict_of (reading_by v (columns_of s)) ≡ v
+    by (Ok _) = refl
+    by (Err r) = refl
 
 -- a slice is read exactly when it is a legal record and its line feed
-pub reading_iff : (s : List ℕ) → ((reading_of s).verdict ≡ Accepted) ↔ ((rec : List ℕ) × Alone rec s × Legal rec)
+pub reading_iff : (s : List ℕ) → (verdict_of (reading_of s) ≡ Accepted) ↔ ((rec : List ℕ) × Alone rec s × Legal rec)
 reading_iff s = subst (λ (v : Verdict). (v ≡ Accepted) ↔ ((rec : List ℕ) × Alone rec s × Legal rec)) (sym (reading_verdict s)) (read_iff s)
 
 -- a slice that was read as a record, and the record that its parts make
@@ -208,42 +199,39 @@ module _ (s rec : List ℕ) (n : ℕ) (a : Alone rec s) (h : 133 ≤ n) (l : Leg
       (w, ap (λ (v : Verdict). written_by v n made) w ∙ ap (λ (x : List ℕ). x ++ (10 ∷ z)) e ∙ sym (append_assoc rec (10 ∷ []) z) ∙ ap (λ (x : List ℕ). x ++ z) (sym a.1))
 
 -- what was read as a leg, written again, is the same bytes, and zeros past them
-pub leg_read_written : (s : List ℕ) (g : Leg) (content : List ℕ) (n : ℕ)
-    → reading_of s ≡ record { verdict = Accepted; parts = parts.Leg g; content = content } → 133 ≤ n
+pub leg_read_written : (s : List ℕ) (g : Leg) (n : ℕ)
+    → reading_of s ≡ Ok (parts.Leg g) → 133 ≤ n
     → (writing n (render_leg g) ≡ Accepted) × (written n (render_leg g) ≡ s ++ replicate (n - 133) 0)
-leg_read_written s g content n e h = by ((reading_iff s).0 (ap (λ (x : Reading). x.verdict) e))
+leg_read_written s g n e h = by ((reading_iff s).0 (ap verdict_of e))
   where
-    same : {x y : Leg} → parts.Leg x ≡ parts.Leg y → x ≡ y
+    same : {x y : Leg} → ◌≡◌ {A = Reading} (Ok (parts.Leg x)) (Ok (parts.Leg y)) → x ≡ y
     same q = cc
 
-    other : {c : Continuation} → parts.Continuation c ≡ parts.Leg g → ⊥
+    other : {c : Continuation} {content : List ℕ} → ◌≡◌ {A = Reading} (Ok (parts.Continuation c content)) (Ok (parts.Leg g)) → ⊥
     other q = let z : ◌≡◌ {A = ℕ} 0 1 = cc in omega arith
 
     by : (rec : List ℕ) × Alone rec s × Legal rec → (writing n (render_leg g) ≡ Accepted) × (written n (render_leg g) ≡ s ++ replicate (n - 133) 0)
-    by (rec, a, inl l) =
-        let q : leg_of rec ≡ g = same (ap (λ (x : Reading). x.parts) (sym (leg_read_lem rec s a l) ∙ e)) in
-        again s rec n a h (inl l) (render_leg g) (leg_only g rec (a.0, l, q))
-    by (rec, a, inr c) = absurd (other (ap (λ (x : Reading). x.parts) (sym (continuation_read rec s a c) ∙ e)))
+    by (rec, a, inl l) = again s rec n a h (inl l) (render_leg g) (leg_only g rec (a.0, l, same (sym (leg_read_lem rec s a l) ∙ e)))
+    by (rec, a, inr c) = absurd (other (sym (continuation_read rec s a c) ∙ e))
 
 -- and so is what was read as a continuation, with its 83 bytes
 pub continuation_read_written : (s : List ℕ) (c : Continuation) (content : List ℕ) (n : ℕ)
-    → reading_of s ≡ record { verdict = Accepted; parts = parts.Continuation c; content = content } → 133 ≤ n
+    → reading_of s ≡ Ok (parts.Continuation c content) → 133 ≤ n
     → (writing n (render_continuation c content) ≡ Accepted) × (written n (render_continuation c content) ≡ s ++ replicate (n - 133) 0)
-continuation_read_written s c content n e h = by ((reading_iff s).0 (ap (λ (x : Reading). x.verdict) e))
+continuation_read_written s c content n e h = by ((reading_iff s).0 (ap verdict_of e))
   where
-    same : {x y : Continuation} → parts.Continuation x ≡ parts.Continuation y → x ≡ y
-    same q = cc
+    same : {x y : Continuation} {p q : List ℕ} → ◌≡◌ {A = Reading} (Ok (parts.Continuation x p)) (Ok (parts.Continuation y q)) → (x ≡ y) × (p ≡ q)
+    same r = (cc, cc)
 
-    other : {g : Leg} → parts.Leg g ≡ parts.Continuation c → ⊥
+    other : {g : Leg} → ◌≡◌ {A = Reading} (Ok (parts.Leg g)) (Ok (parts.Continuation c content)) → ⊥
     other q = let z : ◌≡◌ {A = ℕ} 0 1 = cc in omega arith
 
     by : (rec : List ℕ) × Alone rec s × Legal rec
         → (writing n (render_continuation c content) ≡ Accepted) × (written n (render_continuation c content) ≡ s ++ replicate (n - 133) 0)
-    by (rec, a, inl l) = absurd (other (ap (λ (x : Reading). x.parts) (sym (leg_read_lem rec s a l) ∙ e)))
+    by (rec, a, inl l) = absurd (other (sym (leg_read_lem rec s a l) ∙ e))
     by (rec, a, inr l) =
-        let r = sym (continuation_read rec s a l) ∙ e in
-        let q : continuation_of rec ≡ c = same (ap (λ (x : Reading). x.parts) r) in
-        again s rec n a h (inr l) (render_continuation c content) (continuation_only c content rec (a.0, l, q, ap (λ (x : Reading). x.content) r))
+        let r = same (sym (continuation_read rec s a l) ∙ e) in
+        again s rec n a h (inr l) (render_continuation c content) (continuation_only c content rec (a.0, l, r.0, r.1))
 
 -- on every refusal of writing, 14, 3, 4 or 5, the buffer is nothing but zeros
 pub nothing_written : (n : ℕ) (rec : List ℕ) (r : Refusal) → writing n rec ≡ Refused r → written n rec ≡ replicate n 0

@@ -6,8 +6,7 @@ use Prim.Native.Nat.{ℕ}
 use Rattle.slices.specs.Part.{part}
 use Rattle.columns.specs.Patterns.{codes}
 use Rattle.columns.specs.Samples.{◌at◌is◌, approach, full}
-use Rattle.refusals.specs.Table.{refusal}
-use Rattle.refusals.specs.declared.Verdict.TheVariants.{Refused}
+use Rattle.refusals.specs.Table.{refusal, Refused}
 use Rattle.leg.specs.Judge.{stage}
 use Rattle.parts.specs.Record.{size_column, alone}
 

@@ -1,20 +1,18 @@
 -- One record alone, read and written: the answers, and every byte of a lent buffer.
 -- Assumes nothing.
-use Rattle.std.specs.Prelude.{ℕ, ◌+◌, ◌-◌, ◌≡◌, cond, List, ◌∷◌, ◌++◌, eqb, ltb, length, get_or, take, replicate}
+use Rattle.std.specs.Prelude.{ℕ, ◌+◌, ◌-◌, ◌≡◌, cond, List, ◌∷◌, ◌++◌, eqb, ltb, length, get_or, take, replicate, Result, Ok, Err}
 use Rattle.columns.specs.Kinds.{kind_of}
 use Rattle.columns.specs.declared.Kind.{Kind}
 use Rattle.columns.specs.declared.Kind.TheVariants as kind
-use Rattle.refusals.specs.Table.{cut_short, buffer_too_short}
+use Rattle.refusals.specs.Table.{cut_short, buffer_too_short, Verdict, Accepted, Refused}
 use Rattle.refusals.specs.declared.Refusal.{Refusal}
-use Rattle.refusals.specs.declared.Verdict.{Verdict}
-use Rattle.refusals.specs.declared.Verdict.TheVariants.{Accepted, Refused}
 use Rattle.leg.specs.Judge.{stage, judged, judged_parts}
 use Rattle.fields.specs.Leg.{leg_of, render_leg}
 use Rattle.fields.specs.Continuation.{continuation_of, content_of, render_continuation}
 use Rattle.fields.specs.declared.primary.Leg.{Leg}
 use Rattle.fields.specs.declared.continuation.Continuation.{Continuation}
+use Rattle.parts.specs.declared.Parts.{Parts}
 use Rattle.parts.specs.declared.Parts.TheVariants as parts
-use Rattle.parts.specs.declared.Reading.{Reading}
 
 -- "One record read alone is 133 bytes, place 1; a longer one gives 1 at column 134, if byte 133 is a line feed": the column of refusal 1,
 -- or 0
@@ -32,26 +30,26 @@ columns_of s = take 132 s
 unfoldable pub alone : List ℕ → Verdict
 alone s = stage (size_column s) (cut_short 1) (judged 1 (columns_of s))
 
--- what means nothing in an answer is 0
-unfoldable pub refused_reading : Refusal → Reading
-refused_reading r = record { verdict = Refused r; parts = parts.Nothing; content = replicate 83 0 }
+-- an answer of reading: parts, or a refusal and nothing beside it
+abbrev pub Reading : Type 0
+Reading = Result Parts Refusal
 
-unfoldable pub leg_reading : List ℕ → Reading
-leg_reading rec = record { verdict = Accepted; parts = parts.Leg (leg_of rec); content = replicate 83 0 }
-
-unfoldable pub continuation_reading : List ℕ → Reading
-continuation_reading rec = record { verdict = Accepted; parts = parts.Continuation (continuation_of rec); content = content_of rec }
-
-abbrev pub reading_by_kind : Kind → List ℕ → Reading
-reading_by_kind kind.Primary rec = leg_reading rec
-reading_by_kind kind.Continuation rec = continuation_reading rec
+-- what a legal record says
+abbrev pub parts_by_kind : Kind → List ℕ → Parts
+parts_by_kind kind.Primary rec = parts.Leg (leg_of rec)
+parts_by_kind kind.Continuation rec = parts.Continuation (continuation_of rec) (content_of rec)
 
 abbrev pub reading_by : Verdict → List ℕ → Reading
-reading_by Accepted rec = reading_by_kind (kind_of rec) rec
-reading_by (Refused r) rec = refused_reading r
+reading_by (Ok _) rec = Ok (parts_by_kind (kind_of rec) rec)
+reading_by (Err r) rec = Err r
 
 unfoldable pub reading_of : List ℕ → Reading
 reading_of s = reading_by (alone s) (columns_of s)
+
+-- the verdict in an answer
+abbrev pub verdict_of : Reading → Verdict
+verdict_of (Ok p) = Accepted
+verdict_of (Err r) = Refused r
 
 -- 14, then 3, 4, 5 of the record that the parts make, 3 at the first column of the field; n bytes are lent
 unfoldable pub writing : ℕ → List ℕ → Verdict
@@ -59,8 +57,8 @@ writing n rec = cond (ltb n 133) (Refused buffer_too_short) (judged_parts 0 rec)
 
 -- the record with its line feed and zeros past it, or only zeros
 unfoldable pub written_by : Verdict → ℕ → List ℕ → List ℕ
-written_by Accepted n rec = rec ++ (10 ∷ replicate (n - 133) 0)
-written_by (Refused r) n rec = replicate n 0
+written_by (Ok _) n rec = rec ++ (10 ∷ replicate (n - 133) 0)
+written_by (Err r) n rec = replicate n 0
 
 abbrev pub written : ℕ → List ℕ → List ℕ
 written n rec = written_by (writing n rec) n rec

@@ -1,10 +1,10 @@
 -- Laws of verdicts.
 -- Assumes nothing.
+use Rattle.refusals.specs.Table.{Accepted, Refused}
 use mathlib.Core.Path.{◌≡◌}
 use Prim.Native.Nat.{ℕ}
 use native.Mathlib.Omega.{arith}
 use Rattle.refusals.specs.declared.Refusal.{Refusal}
-use Rattle.refusals.specs.declared.Verdict.TheVariants.{Accepted, Refused}
 
 -- a refusal is no acceptance
 pub never : {r : Refusal} → Refused r ≡ Accepted → ⊥

@@ -1,9 +1,17 @@
 -- Paper 01's table of refusal numbers, row by row: for each case its number, its place and its column.
 -- Assumes nothing.
-use Rattle.std.specs.Prelude.{ℕ}
+use Rattle.std.specs.Prelude.{ℕ, Result, Ok, Err}
 use Rattle.refusals.specs.declared.Refusal.{Refusal}
-use Rattle.refusals.specs.declared.Verdict.{Verdict}
-use Rattle.refusals.specs.declared.Verdict.TheVariants.{Accepted, Refused}
+
+-- what judging says: nothing where it accepts, and otherwise the refusal
+abbrev pub Verdict : Type 0
+Verdict = Result Unit Refusal
+
+abbrev pub Accepted : Verdict
+Accepted = Ok tt
+
+abbrev pub Refused : Refusal → Verdict
+Refused r = Err r
 
 abbrev pub refusal : ℕ → ℕ → ℕ → Refusal
 refusal n p c = record { number = n; place = p; column = c }
@@ -81,5 +89,5 @@ buffer_too_short = refusal 14 0 0
 
 -- what a verdict says: the number, the place and the column of its refusal, and nothing but 0 where it accepts
 abbrev pub stated : Verdict → Refusal
-stated Accepted = refusal 0 0 0
-stated (Refused r) = r
+stated (Ok _) = refusal 0 0 0
+stated (Err r) = r

@@ -32,18 +32,15 @@ pub const MOST_RECORDS: usize = 480;
 
 const RECORD_TOO_MANY: usize = MOST_RECORDS + 1;
 
-#[derive(Clone, Copy)]
+#[derive(Clone, Copy, Debug, PartialEq, Eq)]
 pub struct Refusal {
     pub number: u8,
     pub place: usize,
     pub column: usize,
 }
 
-#[derive(Clone, Copy)]
-pub enum Verdict {
-    Accepted,
-    Refused(Refusal),
-}
+// What judging says: nothing where it accepts, and otherwise the refusal.
+pub type Verdict = Result<(), Refusal>;
 
 impl Refusal {
     pub const CUT_SHORT: u8 = 1;
@@ -219,14 +216,12 @@ impl Refusal {
     }
 }
 
-impl Verdict {
-    // What a verdict says: its refusal's number, place and column, and 0, 0, 0 where it accepts.
-    pub fn stated(self) -> Refusal
-        ensures { result ≡ stated self }
-    {
-        match self {
-            Verdict::Accepted => Refusal::of(0, 0, 0),
-            Verdict::Refused(r) => r,
-        }
+// What a verdict says: its refusal's number, place and column, and 0, 0, 0 where it accepts.
+pub fn stated(verdict: Verdict) -> Refusal
+    ensures { result ≡ stated verdict }
+{
+    match verdict {
+        Ok(()) => Refusal::of(0, 0, 0),
+        Err(r) => r,
     }
 }

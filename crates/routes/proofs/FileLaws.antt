@@ -7,10 +7,8 @@ use Prim.Native.Nat.{ℕ, ◌+◌, ◌-◌, ◌*◌, ◌/◌, ◌≤◌, ◌<◌
 use native.Mathlib.Omega.{arith}
 use lib.ListN.{length, get_or}
 use borrow.Author.Tests.{le-leb, lt-leb, lt-ltb, le-ltb, ne_eqb}
-use Rattle.refusals.specs.Table.{cut_short, too_many_records, continuation_number}
+use Rattle.refusals.specs.Table.{cut_short, too_many_records, continuation_number, Verdict, Accepted, Refused}
 use Rattle.refusals.specs.declared.Refusal.{Refusal}
-use Rattle.refusals.specs.declared.Verdict.{Verdict}
-use Rattle.refusals.specs.declared.Verdict.TheVariants.{Accepted, Refused}
 use Rattle.leg.specs.Judge.{stage}
 use Rattle.routes.specs.InTurn.{in_turn}
 use Rattle.routes.specs.Sources.{record_at, in_use, sources_in, records_in, records, behind_records, sources_to}

@@ -1,5 +1,6 @@
 -- A refusal names the first record that fails and, there, the first stage that does.
 -- Assumes nothing.
+use Rattle.std.specs.Prelude.{Ok, Err}
 use mathlib.Core.Path.{◌≡◌, refl, sym, subst}
 use mathlib.Core.Logic.{◌↔◌}
 use mathlib.Core.Bool.{Bool, not, ◌&&◌}
@@ -8,8 +9,8 @@ use Prim.Native.Nat.{ℕ, ◌+◌, ◌≤◌}
 use native.Mathlib.Omega.{arith}
 use lib.Dec.{eqb}
 use lib.ListN.{length}
-use Rattle.slices.specs.declared.Ordering.{Ordering}
-use Rattle.slices.specs.declared.Ordering.TheVariants.{Less, Equal, Greater}
+use Rattle.std.specs.declared.cmp.Ordering.{Ordering}
+use Rattle.std.specs.declared.cmp.Ordering.TheVariants.{Less, Equal, Greater}
 use Rattle.slices.specs.Order.{order}
 use Rattle.slices.proofs.Cases.{split}
 use Rattle.refusals.proofs.VerdictLaws.{never}
@@ -17,10 +18,8 @@ use Rattle.columns.specs.Words.{columns}
 use Rattle.columns.specs.Kinds.{kind_of, bad_byte}
 use Rattle.columns.specs.declared.Kind.{Kind}
 use Rattle.columns.specs.declared.Kind.TheVariants.{Primary, Continuation}
-use Rattle.refusals.specs.Table.{refusal, field_content, companion_blank, needed_blank, continuation_head, route_not_later, sequence_not_risen, leg_pair, leg_ending}
+use Rattle.refusals.specs.Table.{refusal, field_content, companion_blank, needed_blank, continuation_head, route_not_later, sequence_not_risen, leg_pair, leg_ending, Verdict, Accepted, Refused}
 use Rattle.refusals.specs.declared.Refusal.{Refusal}
-use Rattle.refusals.specs.declared.Verdict.{Verdict}
-use Rattle.refusals.specs.declared.Verdict.TheVariants.{Accepted, Refused}
 use Rattle.leg.specs.Stages.{companion_column, needed_column}
 use Rattle.leg.specs.Judge.{stage, judged_leg, by_kind, judged}
 use Rattle.routes.specs.InTurn.{in_turn}
@@ -36,8 +35,8 @@ use Rattle.routes.specs.First.{AllAccept, none, also, First, here, there, FirstR
 first_to : (r : Refusal) (vs : List Verdict) → in_turn vs ≡ Refused r → First r vs
 unfolding in_turn
 first_to r [] e = absurd (never (sym e))
-first_to r (Accepted ∷ vs) e = there refl (first_to r vs e)
-first_to r (Refused q ∷ vs) e = here e
+first_to r (Ok _ ∷ vs) e = there refl (first_to r vs e)
+first_to r (Err q ∷ vs) e = here e
 
 first_from : (r : Refusal) {vs : List Verdict} → First r vs → in_turn vs ≡ Refused r
 unfolding in_turn
@@ -50,8 +49,8 @@ first_iff r vs = (first_to r vs, first_from r)
 all_to : (vs : List Verdict) → in_turn vs ≡ Accepted → AllAccept vs
 unfolding in_turn
 all_to [] e = none
-all_to (Accepted ∷ vs) e = also refl (all_to vs e)
-all_to (Refused q ∷ vs) e = absurd (never e)
+all_to (Ok _ ∷ vs) e = also refl (all_to vs e)
+all_to (Err q ∷ vs) e = absurd (never e)
 
 all_from : {vs : List Verdict} → AllAccept vs → in_turn vs ≡ Accepted
 unfolding in_turn

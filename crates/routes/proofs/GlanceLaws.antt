@@ -1,6 +1,7 @@
 -- Records that stand at a glance are accepted: each passes 6, 7 and 8, and its ending is not asked but of the last, since another leg of the
 -- route is behind it.
 -- Assumes nothing.
+use Rattle.refusals.specs.Table.{Accepted}
 use mathlib.Core.Path.{◌≡◌, refl, sym, ap, ◌∙◌}
 use mathlib.Core.Bool.{true, false, false≢true}
 use mathlib.Core.List.{List, [], ◌∷◌, ◌++◌, map}
@@ -10,14 +11,13 @@ use lib.ListN.{length, get_or, take, drop}
 use borrow.Author.Tests.{eqb-true}
 use Rattle.slices.specs.Part.{part}
 use Rattle.slices.specs.Order.{order}
-use Rattle.slices.specs.declared.Ordering.TheVariants.{Less}
+use Rattle.std.specs.declared.cmp.Ordering.TheVariants.{Less}
 use Rattle.slices.proofs.PartLaws.{get_or-part}
 use Rattle.slices.proofs.OrderLaws.{order_less, equal_iff}
 use Rattle.columns.specs.ByteSets.{fits}
 use Rattle.columns.specs.Rows.{byte_in}
 use Rattle.columns.specs.Kinds.{kind_of}
 use Rattle.columns.specs.declared.Kind.TheVariants.{Primary}
-use Rattle.refusals.specs.declared.Verdict.TheVariants.{Accepted}
 use Rattle.leg.specs.declared.terminator.Terminator.{Terminator}
 use Rattle.routes.specs.Pairs.{terminator_in, kind_number, may_begin, may_end, first_leg, last_leg}
 use Rattle.routes.specs.Places.{key_of}

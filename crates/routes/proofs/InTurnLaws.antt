@@ -1,19 +1,19 @@
 -- Laws of verdicts in turn.
 -- Assumes nothing.
+use Rattle.std.specs.Prelude.{Ok, Err}
+use Rattle.refusals.specs.Table.{Verdict, Accepted, Refused}
 use mathlib.Core.Path.{◌≡◌, refl, sym, ◌∙◌}
 use mathlib.Core.Logic.{◌↔◌}
 use mathlib.Core.List.{List, [], ◌∷◌}
 use Rattle.refusals.specs.declared.Refusal.{Refusal}
-use Rattle.refusals.specs.declared.Verdict.{Verdict}
-use Rattle.refusals.specs.declared.Verdict.TheVariants.{Accepted, Refused}
 use Rattle.refusals.proofs.VerdictLaws.{never}
 use Rattle.routes.specs.InTurn.{in_turn}
 
 -- one verdict by itself
 pub alone : (v : Verdict) → in_turn (v ∷ []) ≡ v
 unfolding in_turn
-alone Accepted = refl
-alone (Refused r) = refl
+alone (Ok _) = refl
+alone (Err r) = refl
 
 pub first_accepts : (vs : List Verdict) → in_turn (Accepted ∷ vs) ≡ in_turn vs
 unfolding in_turn
@@ -31,8 +31,8 @@ stops w e = rw e
 -- several in turn are the first, and then the others in turn
 pub in_turn_cons : (v : Verdict) (vs : List Verdict) → in_turn (v ∷ in_turn vs ∷ []) ≡ in_turn (v ∷ vs)
 unfolding in_turn
-in_turn_cons Accepted vs = alone (in_turn vs)
-in_turn_cons (Refused r) vs = refl
+in_turn_cons (Ok _) vs = alone (in_turn vs)
+in_turn_cons (Err r) vs = refl
 
 -- four, as the code takes them
 pub four_in_turn : (t u v w : Verdict) {x y r : Verdict} → x ≡ in_turn (v ∷ w ∷ []) → y ≡ in_turn (u ∷ x ∷ []) → r ≡ in_turn (t ∷ y ∷ [])
@@ -41,8 +41,8 @@ four_in_turn t u v w p q e = e ∙ rw (q, p, in_turn_cons u (v ∷ w ∷ [])) (i
 
 pub accepts_iff : (v : Verdict) (vs : List Verdict) → (in_turn (v ∷ vs) ≡ Accepted) ↔ ((v ≡ Accepted) × (in_turn vs ≡ Accepted))
 unfolding in_turn
-accepts_iff Accepted vs = (λ e. (refl, e), λ e. e.1)
-accepts_iff (Refused r) vs = (λ e. absurd (never e), λ e. e.0)
+accepts_iff (Ok _) vs = (λ e. (refl, e), λ e. e.1)
+accepts_iff (Err r) vs = (λ e. absurd (never e), λ e. e.0)
 
 pub four_accept : (u v w x : Verdict) → (in_turn (u ∷ v ∷ w ∷ x ∷ []) ≡ Accepted) ↔ ((u ≡ Accepted) × (v ≡ Accepted) × (w ≡ Accepted) × (x ≡ Accepted))
 four_accept u v w x = (

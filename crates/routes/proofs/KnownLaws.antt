@@ -1,6 +1,8 @@
 -- Laws of a table of known records: what it says of a source, what stays so as it grows, and that the walk which asks it is the walk that
 -- judges every record by itself, where what the table knows is so.
 -- Assumes nothing.
+use Rattle.std.specs.Prelude.{Ok, Err}
+use Rattle.refusals.specs.Table.{Verdict, Accepted, Refused}
 use mathlib.Core.Path.{◌≡◌, refl, sym, ap, ap₂, subst, ◌∙◌}
 use mathlib.Core.Bool.{Bool, true, false}
 use mathlib.Core.List.{List, [], ◌∷◌, ◌++◌, map}
@@ -14,8 +16,6 @@ use lib.Seq.{get_or-set_same, get_or-set_other, set_out}
 use Rattle.slices.proofs.Cases.{split}
 use Rattle.slices.proofs.PartLaws.{zero_at}
 use Rattle.refusals.specs.declared.Refusal.{Refusal}
-use Rattle.refusals.specs.declared.Verdict.{Verdict}
-use Rattle.refusals.specs.declared.Verdict.TheVariants.{Accepted, Refused}
 use Rattle.leg.specs.Judge.{judged}
 use Rattle.leg.specs.Legal.{Legal}
 use Rattle.leg.proofs.Legality.{accepted_iff}
@@ -66,8 +66,8 @@ module _ (f l known : List ℕ) (source : ℕ) where
     learns_past p = by (judged 1 (record_at f l source)) refl
       where
         by : (v : Verdict) → judged 1 (record_at f l source) ≡ v → known ≡ learned f l source known
-        by Accepted q = sym (set_out known i (source + 1) p) ∙ learned_by Accepted q
-        by (Refused r) q = learned_by (Refused r) q
+        by (Ok _) q = sym (set_out known i (source + 1) p) ∙ learned_by Accepted q
+        by (Err r) q = learned_by (Refused r) q
 
     module _ {rec : List ℕ} (a : rec ≡ record_at f l source) {v : Verdict} (b : v ≡ judged 1 rec) where
       pub learns : v ≡ Accepted → set known i (source + 1) ≡ learned f l source known
@@ -107,8 +107,8 @@ module _ (f l : List ℕ) where
     known_learned e = rw e (split (eqb source 4294967295) (λ t. rw t k) (λ t. rw t (by (judged 1 (record_at f l source)) refl)))
       where
         by : (v : Verdict) → judged 1 (record_at f l source) ≡ v → Known f l (kept_if v (set known (slot source) (source + 1)) known)
-        by Accepted q = known_more ((accepted_iff (record_at f l source) 1).0 q)
-        by (Refused r) q = k
+        by (Ok _) q = known_more ((accepted_iff (record_at f l source) 1).0 q)
+        by (Err r) q = k
 
 -- ---- the walk that asks it
 

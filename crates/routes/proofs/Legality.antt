@@ -1,5 +1,6 @@
 -- A file is accepted exactly when it is legal.
 -- Assumes nothing.
+use Rattle.refusals.specs.Table.{Accepted}
 use mathlib.Core.Path.{◌≡◌, refl, sym, ap, ap₂, subst, ◌∙◌}
 use mathlib.Core.Logic.{◌↔◌, ◌⊎◌, inl, inr, ⊎_elim}
 use mathlib.Core.Bool.{Bool, true, false, ◌&&◌, false≢true}
@@ -21,7 +22,6 @@ use Rattle.columns.specs.Words.{columns, ContinuationContent, Code}
 use Rattle.columns.specs.Kinds.{kind_of}
 use Rattle.columns.specs.declared.Kind.TheVariants.{Primary, Continuation}
 use Rattle.columns.proofs.Content.{primary_kind, continuation_kind}
-use Rattle.refusals.specs.declared.Verdict.TheVariants.{Accepted}
 use Rattle.leg.specs.Legal.{Legal, LegalLeg}
 use Rattle.routes.specs.Pairs.{terminator_in, first_leg, last_leg, pair}
 use Rattle.routes.specs.Stages.{Seen, seen, number_after, awaits}

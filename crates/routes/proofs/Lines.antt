@@ -10,8 +10,7 @@ use lib.ListN.{length, get_or, take, drop, take-append-drop, length-append, leng
 use lib.Seq.{drop-drop, drop-cons, take_at, get_or_at, drop-append-add, length-take-le}
 use borrow.Author.Tests.{le-leb, leb-true, eqb-true}
 use Rattle.slices.proofs.Cases.{split}
-use Rattle.refusals.specs.Table.{cut_short}
-use Rattle.refusals.specs.declared.Verdict.TheVariants.{Accepted}
+use Rattle.refusals.specs.Table.{cut_short, Accepted}
 use Rattle.refusals.proofs.VerdictLaws.{never}
 use Rattle.leg.proofs.Legality.{stage_iff}
 use Rattle.routes.specs.Sources.{record_within, starts, leading, records, pieces, behind_records}

@@ -1,6 +1,7 @@
 -- The records of each route alone: a list of records is accepted exactly when its places rise and each route's own records, by
 -- themselves, are accepted. This is what lets corrections of one route be judged without the others.
 -- Assumes nothing.
+use Rattle.refusals.specs.Table.{Accepted}
 use mathlib.Core.Path.{◌≡◌, refl, sym, ap, subst, ◌∙◌}
 use mathlib.Core.Logic.Iff
 use mathlib.Core.Logic.{◌↔◌, ◌⊎◌, inl, inr, ⊎_elim}
@@ -13,7 +14,6 @@ use Rattle.slices.proofs.OrderLaws.{equal_iff, irreflexive}
 use Rattle.columns.specs.Words.{columns}
 use Rattle.columns.specs.Kinds.{kind_of}
 use Rattle.columns.specs.declared.Kind.TheVariants.{Primary, Continuation}
-use Rattle.refusals.specs.declared.Verdict.TheVariants.{Accepted}
 use Rattle.leg.specs.Legal.{Legal}
 use Rattle.routes.specs.Pairs.{first_leg, last_leg}
 use Rattle.routes.specs.Stages.{Seen, seen, nothing, number_after, awaits}

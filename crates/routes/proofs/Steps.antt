@@ -11,8 +11,8 @@ use lib.Dec.{eqb}
 use lib.ListN.{length}
 use borrow.Author.Tests.{eqb-true, eqb-false, eq-eqb}
 use Rattle.slices.specs.Order.{order, equal}
-use Rattle.slices.specs.declared.Ordering.{Ordering}
-use Rattle.slices.specs.declared.Ordering.TheVariants.{Less, Equal, Greater}
+use Rattle.std.specs.declared.cmp.Ordering.{Ordering}
+use Rattle.std.specs.declared.cmp.Ordering.TheVariants.{Less, Equal, Greater}
 use Rattle.slices.proofs.Cases.{split}
 use Rattle.slices.proofs.PartLaws.{length_part}
 use Rattle.slices.proofs.OrderLaws.{order_equal, order_refl, equal_iff}
@@ -22,9 +22,7 @@ use Rattle.columns.specs.Words.{columns}
 use Rattle.columns.specs.Kinds.{kind_of}
 use Rattle.columns.specs.declared.Kind.{Kind}
 use Rattle.columns.specs.declared.Kind.TheVariants.{Primary, Continuation}
-use Rattle.refusals.specs.Table.{continuation_head, route_not_later, sequence_not_risen, leg_pair, leg_ending, continuation_number}
-use Rattle.refusals.specs.declared.Verdict.{Verdict}
-use Rattle.refusals.specs.declared.Verdict.TheVariants.{Accepted, Refused}
+use Rattle.refusals.specs.Table.{continuation_head, route_not_later, sequence_not_risen, leg_pair, leg_ending, continuation_number, Verdict, Accepted, Refused}
 use Rattle.leg.specs.Judge.{stage, judged}
 use Rattle.leg.specs.Legal.{Legal}
 use Rattle.leg.proofs.Legality.{accepted_iff, stage_iff}

@@ -1,5 +1,6 @@
 -- One turn of each loop, as an equation between what is left before it and after it.
 -- Assumes nothing.
+use Rattle.refusals.specs.Table.{Verdict, Accepted, Refused}
 use mathlib.Core.Path.{◌≡◌, refl, sym, ap, ◌∙◌}
 use mathlib.Core.Bool.{Bool, true, false, ◌&&◌, ◌||◌}
 use mathlib.Core.List.{List, [], ◌∷◌, ◌++◌, map, map-append}
@@ -14,8 +15,6 @@ use Rattle.columns.specs.declared.Kind.{Kind}
 use Rattle.columns.specs.declared.Kind.TheVariants.{Primary, Continuation}
 use Rattle.slices.proofs.PartLaws.{part_next, part_done, part_whole}
 use Rattle.refusals.specs.declared.Refusal.{Refusal}
-use Rattle.refusals.specs.declared.Verdict.{Verdict}
-use Rattle.refusals.specs.declared.Verdict.TheVariants.{Accepted, Refused}
 use Rattle.routes.specs.InTurn.{in_turn}
 use Rattle.routes.specs.Sources.{record_at, in_use, sources_in, records_in}
 use Rattle.routes.specs.Stages.{seen, nothing, columns_to, first_difference}

@@ -1,9 +1,7 @@
 -- A file judged: its size, its records in sequence, what stands behind them, and a continuation that is missing at the end.
 -- Assumes nothing.
 use Rattle.std.specs.Prelude.{ℕ, ◌+◌, ◌-◌, ◌*◌, cond, List, [], ◌∷◌, eqb, leb, ltb, length}
-use Rattle.refusals.specs.Table.{cut_short, too_many_records}
-use Rattle.refusals.specs.declared.Verdict.{Verdict}
-use Rattle.refusals.specs.declared.Verdict.TheVariants.{Accepted, Refused}
+use Rattle.refusals.specs.Table.{cut_short, too_many_records, Verdict, Accepted, Refused}
 use Rattle.leg.specs.Judge.{stage}
 use Rattle.routes.specs.InTurn.{in_turn}
 use Rattle.routes.specs.Sources.{records, behind_records}

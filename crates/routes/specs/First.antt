@@ -1,9 +1,8 @@
 -- The first failure, said as a relation: everything before it is accepted.
 -- Assumes nothing.
+use Rattle.refusals.specs.Table.{Verdict, Accepted, Refused}
 use Rattle.std.specs.Prelude.{ℕ, ◌+◌, ◌≤◌, ◌≡◌, List, [], ◌∷◌, ◌++◌}
 use Rattle.refusals.specs.declared.Refusal.{Refusal}
-use Rattle.refusals.specs.declared.Verdict.{Verdict}
-use Rattle.refusals.specs.declared.Verdict.TheVariants.{Accepted, Refused}
 use Rattle.routes.specs.Stages.{Seen}
 use Rattle.routes.specs.Walk.{ends_route, stages_after, seen_with}
 

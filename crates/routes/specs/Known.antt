@@ -1,9 +1,8 @@
 -- Records that are known to be legal by themselves, in a table of sources: each has a slot, which holds the source and one more. And records
 -- in sequence, where those that a table knows are not judged by themselves again.
 -- Assumes nothing.
-use Rattle.std.specs.Prelude.{ℕ, ◌+◌, ◌-◌, ◌/◌, ◌≡◌, Bool, true, cond, List, [], ◌∷◌, ◌++◌, map, eqb, ltb, get_or, set}
-use Rattle.refusals.specs.declared.Verdict.{Verdict}
-use Rattle.refusals.specs.declared.Verdict.TheVariants.{Accepted, Refused}
+use Rattle.refusals.specs.Table.{Verdict, Accepted}
+use Rattle.std.specs.Prelude.{ℕ, ◌+◌, ◌-◌, ◌/◌, ◌≡◌, Bool, true, cond, List, [], ◌∷◌, ◌++◌, map, eqb, ltb, get_or, set, Ok, Err}
 use Rattle.leg.specs.Judge.{judged}
 use Rattle.leg.specs.Legal.{Legal}
 use Rattle.routes.specs.InTurn.{in_turn}
@@ -24,8 +23,8 @@ knows known source = eqb (get_or known (slot source) 0) (source + 1)
 -- the table with a source in its slot, where its record is legal by itself. The last number that a source may be is left out, since one more
 -- is no such number; where the table has no slot for a source, it stays as it is.
 abbrev pub kept_if : Verdict → (with without : List ℕ) → List ℕ
-kept_if Accepted with without = with
-kept_if (Refused r) with without = without
+kept_if (Ok _) with without = with
+kept_if (Err r) with without = without
 
 unfoldable pub learned : (frozen log : List ℕ) (source : ℕ) → List ℕ → List ℕ
 learned frozen log source known =

@@ -5,9 +5,7 @@ use Rattle.slices.specs.Order.{equal}
 use Rattle.columns.specs.Kinds.{kind_of}
 use Rattle.columns.specs.declared.Kind.{Kind}
 use Rattle.columns.specs.declared.Kind.TheVariants.{Primary, Continuation}
-use Rattle.refusals.specs.Table.{continuation_number}
-use Rattle.refusals.specs.declared.Verdict.{Verdict}
-use Rattle.refusals.specs.declared.Verdict.TheVariants.{Accepted, Refused}
+use Rattle.refusals.specs.Table.{continuation_number, Verdict, Accepted, Refused}
 use Rattle.leg.specs.Judge.{judged}
 use Rattle.routes.specs.InTurn.{in_turn}
 use Rattle.routes.specs.Stages.{Seen, seen, nothing, columns_to, awaits, continuation_stage, sequence_stage, order_stage, leg_stage, ending_stage}

@@ -3,7 +3,7 @@
 // refused here: the walk says what it is. Assumes of its callers, all in this crate, that the table of pairs is right, and that the kind and
 // the legs at hand are the records' own.
 ghost use Rattle.std.specs.Prelude.{◌≡◌, true, ◌≤◌, take, drop};
-ghost use Rattle.refusals.specs.declared.Verdict.TheVariants.{Accepted};
+ghost use Rattle.refusals.specs.Table.{Accepted};
 ghost use Rattle.routes.specs.Pairs.{terminator_in, kind_number, PairTable};
 ghost use Rattle.routes.specs.Known.{walked_knowing};
 ghost use Rattle.routes.specs.Glance.{lone, Begins, Follows, StandingIn};
@@ -11,7 +11,8 @@ ghost use Rattle.routes.specs.Glance.{lone, Begins, Follows, StandingIn};
 use crate::known::knows;
 use crate::{KEY, NUMBER, pairs, record_at};
 use leg::terminator::Terminator;
-use slices::{Ordering, byte_at, compare, least, same};
+use slices::{byte_at, compare, least, same};
+use std::cmp::Ordering;
 
 // Whether a record is a primary without continuations.
 fn lone(rec: &[u8]) -> bool

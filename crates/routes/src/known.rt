@@ -48,9 +48,9 @@ pub fn learn<'a>(frozen: &'a [u8], log: &'a [u8], source: u32, known: &mut [u32]
     let rec = record_at(frozen, log, source);
     let verdict = leg::judge(rec, 1);
     match verdict {
-        Verdict::Accepted => {
+        Ok(()) => {
             known[i] = source + 1;
         }
-        Verdict::Refused(_) => {}
+        Err(_) => {}
     }
 }

@@ -8,6 +8,7 @@ pub mod known;
 mod pairs;
 mod record;
 mod stages;
+mod texts;
 
 ghost use Rattle.std.specs.Prelude.{◌≡◌, [], ◌∷◌, ◌≤◌, length};
 ghost use Rattle.routes.specs.InTurn.{in_turn};
@@ -22,6 +23,7 @@ use columns::Kind;
 use known::{NOTHING_KNOWN, knows};
 use refusals::{MOST_RECORDS, Refusal, Verdict};
 use slices::least;
+pub use texts::Texts;
 
 // Where the key of a route ends, and the head that a continuation shares with its primary; the column of the continuation number.
 const KEY: usize = 25;
@@ -150,8 +152,8 @@ fn in_turn(first: Verdict, next: Verdict) -> Verdict
     ensures { result ≡ in_turn (first ∷ next ∷ []) }
 {
     match first {
-        Verdict::Accepted => next,
-        Verdict::Refused(r) => Verdict::Refused(r),
+        Ok(()) => next,
+        Err(r) => Err(r),
     }
 }
 
@@ -195,9 +197,9 @@ fn walk<'a>(
         let last = ends_route(frozen, log, &all, i + 1, view, rec);
         let verdict = judge_next(legal, primary, before, rec, i - from + 1, last);
         match verdict {
-            Verdict::Accepted => {}
-            Verdict::Refused(r) => {
-                return Verdict::Refused(r);
+            Ok(()) => {}
+            Err(r) => {
+                return Err(r);
             }
         }
         let newest = primary_after(primary, rec);
@@ -205,7 +207,7 @@ fn walk<'a>(
         before = rec;
         i += 1;
     }
-    Verdict::Accepted
+    Ok(())
 }
 
 // Whether a continuation is missing past the last record of a range of sources, which are read as `judge_range` reads them.
@@ -215,14 +217,14 @@ fn finish<'a>(frozen: &'a [u8], log: &'a [u8], sources: Sources, from: usize, to
     let count = sources.count;
     let end = least(to, least(count, MOST_RECORDS));
     if end <= from {
-        return Verdict::Accepted;
+        return Ok(());
     }
     let source = sources.at[end - 1];
     let rec = record_at(frozen, log, source);
     if stages::awaits(NUMBER, rec) {
-        return Verdict::Refused(Refusal::continuation_number(end - from + 1));
+        return Err(Refusal::continuation_number(end - from + 1));
     }
-    Verdict::Accepted
+    Ok(())
 }
 
 // Judges the records of a range of sources, a route of them for example, in sequence and counted from its start. The range counts from
@@ -242,7 +244,7 @@ pub fn judge_known<'a>(
     let count = sources.count;
     let end = least(to, least(count, MOST_RECORDS));
     if glance::stand(frozen, log, known, &sources.at, from, end) {
-        return Verdict::Accepted;
+        return Ok(());
     }
     let judged = walk(frozen, log, known, sources, from, to, to);
     let finished = finish(frozen, log, sources, from, to);
@@ -269,13 +271,13 @@ fn judge_tail(file: &[u8], n: usize) -> Verdict
 {
     let whole = n * LINE_WIDTH;
     if file.len() <= whole {
-        return Verdict::Accepted;
+        return Ok(());
     }
     let tail = file.len() - whole;
     if tail < LINE_WIDTH {
-        return Verdict::Refused(Refusal::cut_short(n + 1, tail + 1));
+        return Err(Refusal::cut_short(n + 1, tail + 1));
     }
-    Verdict::Refused(Refusal::cut_short(n + 1, LINE_WIDTH))
+    Err(Refusal::cut_short(n + 1, LINE_WIDTH))
 }
 
 // Judges a file: 2 for its size; then record by record 1, 3, 4, 5, 6, 7, 8; a continuation that is missing past the last record. A piece of
@@ -284,7 +286,7 @@ pub fn check(file: &[u8]) -> Verdict
     ensures { result ≡ file_verdict file.now }
 {
     if LONGEST_FILE < file.len() {
-        return Verdict::Refused(Refusal::too_many_records());
+        return Err(Refusal::too_many_records());
     }
     let count = count_records(file);
     let whole = file.len() / LINE_WIDTH;

@@ -20,7 +20,8 @@ use crate::pairs;
 use columns::Kind;
 use leg::terminator::Terminator;
 use refusals::{Refusal, Verdict};
-use slices::{Ordering, byte_at, compare, same};
+use slices::{byte_at, compare, same};
+use std::cmp::Ordering;
 
 // The continuation number after a number, or 0 where none comes after it.
 fn number_after(b: u8) -> u8
@@ -102,9 +103,9 @@ pub(crate) fn continuation_stage<'a>(
 {
     let column = continuation_column(head, number, kind, primary, before, rec);
     if column != 0 {
-        return Verdict::Refused(Refusal::continuation_head(place, column));
+        return Err(Refusal::continuation_head(place, column));
     }
-    Verdict::Accepted
+    Ok(())
 }
 
 // Whether the sequence number has risen since the last primary, which is of the same route.
@@ -113,9 +114,9 @@ pub(crate) fn sequence_stage<'a>(primary: &'a [u8], rec: &'a [u8], place: usize)
 {
     let way = compare(primary, 26, rec, 26, 3);
     match way {
-        Ordering::Less => Verdict::Accepted,
-        Ordering::Equal => Verdict::Refused(Refusal::sequence_not_risen(place)),
-        Ordering::Greater => Verdict::Refused(Refusal::sequence_not_risen(place)),
+        Ordering::Less => Ok(()),
+        Ordering::Equal => Err(Refusal::sequence_not_risen(place)),
+        Ordering::Greater => Err(Refusal::sequence_not_risen(place)),
     }
 }
 
@@ -134,12 +135,12 @@ pub(crate) fn order_stage<'a>(
         Kind::Primary => {
             let way = compare(primary, 0, rec, 0, key);
             match way {
-                Ordering::Less => Verdict::Accepted,
+                Ordering::Less => Ok(()),
                 Ordering::Equal => level,
-                Ordering::Greater => Verdict::Refused(Refusal::route_not_later(place)),
+                Ordering::Greater => Err(Refusal::route_not_later(place)),
             }
         }
-        Kind::Continuation => Verdict::Accepted,
+        Kind::Continuation => Ok(()),
     }
 }
 
@@ -168,12 +169,12 @@ pub(crate) fn leg_stage<'a>(
     match kind {
         Kind::Primary => {
             if leg_stands(key, primary, rec) {
-                Verdict::Accepted
+                Ok(())
             } else {
-                Verdict::Refused(Refusal::leg_pair(place))
+                Err(Refusal::leg_pair(place))
             }
         }
-        Kind::Continuation => Verdict::Accepted,
+        Kind::Continuation => Ok(()),
     }
 }
 
@@ -183,8 +184,8 @@ pub(crate) fn ending_stage(last: bool, rec: &[u8], place: usize) -> Verdict
 {
     if last {
         if !pairs::last_leg(rec) {
-            return Verdict::Refused(Refusal::leg_ending(place));
+            return Err(Refusal::leg_ending(place));
         }
     }
-    Verdict::Accepted
+    Ok(())
 }

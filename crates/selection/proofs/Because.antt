@@ -1,6 +1,8 @@
 -- What is promised of the reasons (`AllExplained`, in specs/Demand): there is one for each correction taken, each is so, and following them leads to
 -- a wanted one.
 -- Assumes nothing.
+use Rattle.std.specs.Prelude.{Ok, Err}
+use Rattle.refusals.specs.Table.{Verdict, Accepted, Refused}
 use mathlib.Core.Path.{◌≡◌, refl, sym, ap, subst, ◌∙◌}
 use mathlib.Core.Bool.{Bool, true, false, cond, false≢true}
 use mathlib.Core.List.{List, [], ◌∷◌, ◌++◌, map, Memᴰ}
@@ -14,8 +16,6 @@ use borrow.Author.Tests.{eqb-true, eq-eqb, ltb-true, ltb-false}
 use Rattle.slices.proofs.Cases.{split, and_left, and_right, both}
 use Rattle.slices.proofs.PartLaws.{member_iff}
 use Rattle.refusals.specs.declared.Refusal.{Refusal}
-use Rattle.refusals.specs.declared.Verdict.{Verdict}
-use Rattle.refusals.specs.declared.Verdict.TheVariants.{Accepted, Refused}
 use Rattle.corrections.specs.Reading.{Entry, Reading, refused, said, read_log}
 use Rattle.corrections.proofs.Within.{legal_read}
 use Rattle.routes.specs.Places.{Every}
@@ -292,9 +292,9 @@ module _ (frozen log ws : List ℕ) where
           judged : (v : Verdict) → wanted_stage n 1 ws ≡ v → (o : Outcome) → carried frozen log everything n es ≡ o
               → judged_first v (ran_first o (λ _. pick_by frozen log (taken_of frozen log n es ws) n es)) ≡ refused_by r
               → (outcome_verdict (judged_then v o) ≡ Refused r) × (unless_stopped frozen log (judged_then v o) (reasons_by frozen log n es ws) ≡ [])
-          judged (Refused q) v o a g = (let same : q ≡ r = cc in ap Refused same, refl)
-          judged Accepted v (stopped q w) a g = (let same : q ≡ r = cc in ap Refused same, refl)
-          judged Accepted v (reached last) a g =
+          judged (Err q) v o a g = (let same : q ≡ r = cc in ap Refused same, refl)
+          judged (Ok _) v (stopped q w) a g = (let same : q ≡ r = cc in ap Refused same, refl)
+          judged (Ok _) v (reached last) a g =
               let whole : Whole frozen log n es = record { opening = said_opening frozen log n es p; last = last; all = a } in
               let (taken, xs, stands) = whole_picks frozen log ws whole p v in
               let not : refused_by r ≡ picked taken xs = sym e ∙ stands in

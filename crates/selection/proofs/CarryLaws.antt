@@ -1,5 +1,7 @@
 -- Laws of the steps of a pick: what was opened, the whole log, the corrections taken alone; a law for each way that a step ends.
 -- Assumes nothing.
+use Rattle.std.specs.Prelude.{Ok, Err}
+use Rattle.refusals.specs.Table.{Verdict, Accepted, Refused}
 use mathlib.Core.Path.{◌≡◌, refl, sym, ap, ap₂, subst, ◌∙◌}
 use mathlib.Core.Bool.{Bool, true, false, cond}
 use mathlib.Core.List.{List, [], ◌∷◌, ◌++◌}
@@ -9,8 +11,6 @@ use lib.Dec.{eqb}
 use lib.ListN.{length, replicate, get_or-replicate}
 use lib.Seq.{take_all}
 use Rattle.refusals.specs.declared.Refusal.{Refusal}
-use Rattle.refusals.specs.declared.Verdict.{Verdict}
-use Rattle.refusals.specs.declared.Verdict.TheVariants.{Accepted, Refused}
 use Rattle.refusals.proofs.VerdictLaws.{never, same_refusal}
 use Rattle.routes.specs.Files.{file_verdict}
 use Rattle.routes.specs.InTurn.{in_turn}
@@ -94,8 +94,8 @@ module _ (f l : List ℕ) (index : Index) (e : index ≡ index_of (opened f l)) 
     }
       where
         by : {n : ℕ} {es : List Entry} (x : Verdict) → if_accepted x (read_log l (length (records f))) ≡ said n es → read_log l (length (records f)) ≡ said n es
-        by Accepted h = h
-        by (Refused r) h = absurd (not_said h)
+        by (Ok _) h = h
+        by (Err r) h = absurd (not_said h)
 
     pub opened_said : opened f l ≡ said index.corrections (entries_from index 0 index.count)
     unfolding was_said opened_reads
@@ -259,9 +259,9 @@ module _ (f l ws : List ℕ) (n : ℕ) (es : List Entry) {x : Failure} (s : x �
   settled_refused {r} e = by (wanted_stage n 1 ws) (carried f l everything n es) (said_verdict ∙ e)
     where
       by : (v : Verdict) (o : Outcome) → outcome_verdict (judged_then v o) ≡ Refused r → refused_by r ≡ judged_first v (ran_first o (λ _. pick_by f l (taken_of f l n es ws) n es))
-      by Accepted (stopped q w) h = ap refused_by (sym (same_refusal h))
-      by Accepted (reached xs) h = absurd (never (sym h))
-      by (Refused q) o h = ap refused_by (sym (same_refusal h))
+      by (Ok _) (stopped q w) h = ap refused_by (sym (same_refusal h))
+      by (Ok _) (reached xs) h = absurd (never (sym h))
+      by (Err q) o h = ap refused_by (sym (same_refusal h))
 
   pub settled_stands : x.verdict ≡ Accepted → pick_by f l (taken_of f l n es ws) n es ≡ pick_from f l ws (said n es)
   unfolding settled
@@ -269,9 +269,9 @@ module _ (f l ws : List ℕ) (n : ℕ) (es : List Entry) {x : Failure} (s : x �
     where
       by : (v : Verdict) (o : Outcome) → outcome_verdict (judged_then v o) ≡ Accepted
           → pick_by f l (taken_of f l n es ws) n es ≡ judged_first v (ran_first o (λ _. pick_by f l (taken_of f l n es ws) n es))
-      by Accepted (stopped q w) h = absurd (never h)
-      by Accepted (reached xs) h = refl
-      by (Refused q) o h = absurd (never h)
+      by (Ok _) (stopped q w) h = absurd (never h)
+      by (Ok _) (reached xs) h = refl
+      by (Err q) o h = absurd (never h)
 
   -- and the whole log has run
   pub all_run_lem : x.verdict ≡ Accepted → (ys : List ℕ) × (carried f l everything n es ≡ reached ys)
@@ -279,9 +279,9 @@ module _ (f l ws : List ℕ) (n : ℕ) (es : List Entry) {x : Failure} (s : x �
   all_run_lem e = by (wanted_stage n 1 ws) (carried f l everything n es) (said_verdict ∙ e)
     where
       by : (v : Verdict) (o : Outcome) → outcome_verdict (judged_then v o) ≡ Accepted → (ys : List ℕ) × (o ≡ reached ys)
-      by Accepted (stopped q w) h = absurd (never h)
-      by Accepted (reached xs) h = (xs, refl)
-      by (Refused q) o h = absurd (never h)
+      by (Ok _) (stopped q w) h = absurd (never h)
+      by (Ok _) (reached xs) h = (xs, refl)
+      by (Err q) o h = absurd (never h)
 
   pub no_reason_lem : {r : Refusal} → x.verdict ≡ Refused r → [] ≡ reasons_from f l ws (said n es)
   no_reason_lem e = by (settled f l ws n es) (said_verdict ∙ e)

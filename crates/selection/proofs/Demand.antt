@@ -1,6 +1,7 @@
 -- The third demand, of this product's own definitions: which logs are accepted, when there is a pick, and that a pick is what is promised of it
 -- (`Demanded`, in specs/Demand).
 -- Assumes nothing.
+use Rattle.refusals.specs.Table.{Accepted}
 use mathlib.Core.Path.{◌≡◌, refl, sym, ap, subst, ◌∙◌}
 use mathlib.Core.Logic.{◌↔◌}
 use mathlib.Core.List.{List, map}
@@ -8,7 +9,6 @@ use mathlib.Core.Option.{some}
 use Prim.Native.Nat.{ℕ, ◌≤◌}
 use native.Mathlib.Omega.{arith}
 use lib.ListN.{length, length-map}
-use Rattle.refusals.specs.declared.Verdict.TheVariants.{Accepted}
 use Rattle.corrections.specs.Text.{LegalLog}
 use Rattle.routes.specs.Files.{file_verdict}
 use Rattle.routes.specs.Legal.{lines}

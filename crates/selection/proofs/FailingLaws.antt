@@ -1,5 +1,6 @@
 -- Laws of where a log fails: the line of an offset, and that the verdict is that of the log.
 -- Assumes nothing.
+use Rattle.refusals.specs.Table.{Refused}
 use mathlib.Core.Path.{◌≡◌, refl, sym, ap, ap₂, subst, ◌∙◌}
 use mathlib.Core.Bool.{Bool, true, false, cond}
 use mathlib.Core.List.{List, ◌∷◌}
@@ -9,7 +10,6 @@ use lib.Dec.{eqb}
 use lib.ListN.{length, get_or, take, drop, length-take, drop_of_length-le}
 use lib.Seq.{drop-cons, get_or-take}
 use Rattle.refusals.specs.declared.Refusal.{Refusal}
-use Rattle.refusals.specs.declared.Verdict.TheVariants.{Refused}
 use Rattle.refusals.proofs.VerdictLaws.{never, same_refusal}
 use Rattle.corrections.specs.Reading.{Reading, refused, said}
 use Rattle.applying.specs.Correct.{Wrong, no_more, Outcome, stopped, reached, fault_as}

@@ -1,5 +1,6 @@
 -- Laws of what a pick is put together from: sources with zeros past them, the marked numbers, and the record of one line.
 -- Assumes nothing.
+use Rattle.refusals.specs.Table.{Accepted, Refused}
 use mathlib.Core.Path.{◌≡◌, refl, sym, ap, ap₂, subst, ◌∙◌}
 use mathlib.Core.Bool.{Bool, true, false, cond}
 use mathlib.Core.List.{List, [], ◌∷◌, ◌++◌, map}
@@ -13,7 +14,6 @@ use Rattle.slices.proofs.Cases.{split}
 use Rattle.slices.proofs.PartLaws.{one_less, get_or_any}
 use Rattle.slices.proofs.WriteLaws.{sets-append, stored_front}
 use Rattle.refusals.specs.declared.Refusal.{Refusal}
-use Rattle.refusals.specs.declared.Verdict.TheVariants.{Accepted, Refused}
 use Rattle.history.specs.Sets.{Numbers}
 use Rattle.slices.specs.Part.{member}
 use Rattle.routes.specs.Places.{Every}

@@ -1,6 +1,8 @@
 -- What is known once a frozen file and a log are opened: the file is accepted, the log is legal, and what is run over the file's sources is
 -- what the theory of selection runs over its records.
 -- Assumes nothing.
+use Rattle.std.specs.Prelude.{Ok, Err}
+use Rattle.refusals.specs.Table.{Verdict, Accepted}
 use mathlib.Core.Path.{◌≡◌, refl, sym, ap, subst, ◌∙◌}
 use mathlib.Core.Bool.{true}
 use mathlib.Core.List.{List, [], ◌∷◌, map}
@@ -11,8 +13,6 @@ use lib.ListN.{length}
 use lib.Seq.{take-take}
 use borrow.Author.Tests.{le-ltb}
 use Rattle.refusals.specs.declared.Refusal.{Refusal}
-use Rattle.refusals.specs.declared.Verdict.{Verdict}
-use Rattle.refusals.specs.declared.Verdict.TheVariants.{Accepted, Refused}
 use Rattle.corrections.specs.Reading.{Entry, Reading, refused, said, read_log}
 use Rattle.corrections.specs.Text.{LegalLog}
 use Rattle.corrections.proofs.FrontLaws.{not_said}
@@ -88,8 +88,8 @@ module _ (frozen log : List ℕ) where
     where
       by : (v : Verdict) → if_accepted v (read_log log (length (records frozen))) ≡ said n es
           → (v ≡ Accepted) × (read_log log (length (records frozen)) ≡ said n es)
-      by Accepted h = (refl, h)
-      by (Refused r) h = absurd (not_said h)
+      by (Ok _) h = (refl, h)
+      by (Err r) h = absurd (not_said h)
 
       same_lines : (l : LegalLog log (length (records frozen))) → said n es ≡ said (length l.corrections) (entries_in 0 0 l.corrections)
           → operations frozen log (by_correction 1 n es) ≡ log_of l

@@ -12,10 +12,8 @@ use lib.ListN.{length, get_or, drop, drop_of_length-le}
 use lib.Seq.{drop-cons}
 use borrow.Author.Tests.{eq-eqb, ne_eqb, eqb-false, lt-ltb, le-ltb, ltb-false}
 use Rattle.slices.proofs.Cases.{split}
-use Rattle.refusals.specs.Table.{log_too_long, not_in_log}
+use Rattle.refusals.specs.Table.{log_too_long, not_in_log, Verdict, Accepted, Refused}
 use Rattle.refusals.specs.declared.Refusal.{Refusal}
-use Rattle.refusals.specs.declared.Verdict.{Verdict}
-use Rattle.refusals.specs.declared.Verdict.TheVariants.{Accepted, Refused}
 use Rattle.refusals.proofs.VerdictLaws.{never}
 use Rattle.corrections.specs.Reading.{refused, read_log, index_of}
 use Rattle.corrections.specs.declared.Index.{Index}

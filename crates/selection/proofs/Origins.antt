@@ -11,7 +11,7 @@ use lib.ListN.{length, get_or, get_or-map}
 use lib.Seq.{take_at}
 use Rattle.slices.specs.Part.{member}
 use Rattle.slices.specs.Order.{order}
-use Rattle.slices.specs.declared.Ordering.TheVariants.{Less}
+use Rattle.std.specs.declared.cmp.Ordering.TheVariants.{Less}
 use Rattle.slices.proofs.Cases.{split}
 use Rattle.slices.proofs.OrderLaws.{irreflexive}
 use Rattle.slices.proofs.PartLaws.{get_or_any}

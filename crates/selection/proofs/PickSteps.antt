@@ -1,13 +1,13 @@
 -- The steps of a judged log and of a pick, with what the theory of selection says at each.
 -- Assumes nothing.
+use Rattle.std.specs.Prelude.{Ok, Err}
+use Rattle.refusals.specs.Table.{Verdict, Accepted}
 use mathlib.Core.Path.{◌≡◌, refl, sym, ap, ◌∙◌}
 use mathlib.Core.List.{List, map}
 use mathlib.Core.Option.{some}
 use Prim.Native.Nat.{ℕ}
 use native.Mathlib.Omega.{arith}
 use lib.ListN.{length}
-use Rattle.refusals.specs.declared.Verdict.{Verdict}
-use Rattle.refusals.specs.declared.Verdict.TheVariants.{Accepted, Refused}
 use Rattle.refusals.proofs.VerdictLaws.{never}
 use Rattle.corrections.specs.Reading.{Entry, Reading, refused, said}
 use Rattle.corrections.specs.Text.{LegalLog}
@@ -96,8 +96,8 @@ module _ (frozen log : List ℕ) where
 -- ---- the pick
 
 judged_first_lem : (v : Verdict) (p : Pick) {ns xs : List ℕ} → judged_first v p ≡ picked ns xs → (v ≡ Accepted) × (p ≡ picked ns xs)
-judged_first_lem Accepted p e = (refl, e)
-judged_first_lem (Refused r) p e = let z : ◌≡◌ {A = ℕ} 0 1 = cc in absurd (omega arith)
+judged_first_lem (Ok _) p e = (refl, e)
+judged_first_lem (Err r) p e = let z : ◌≡◌ {A = ℕ} 0 1 = cc in absurd (omega arith)
 
 ran_first_lem : (o : Outcome) (next : List ℕ → Pick) {ns xs : List ℕ} → ran_first o next ≡ picked ns xs
     → (zs : List ℕ) × (o ≡ reached zs) × (next zs ≡ picked ns xs)

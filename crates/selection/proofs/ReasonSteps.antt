@@ -1,12 +1,12 @@
 -- The reasons once a file and a log are open: a law for each way that they are found.
 -- Assumes nothing.
+use Rattle.refusals.specs.Table.{Accepted, Refused}
 use mathlib.Core.Path.{◌≡◌, sym, ap, ap₂, ◌∙◌}
 use mathlib.Core.List.{List, [], ◌++◌}
 use Prim.Native.Nat.{ℕ, ◌+◌, ◌-◌, ◌≤◌, ◌<◌}
 use native.Mathlib.Omega.{arith}
 use lib.ListN.{length, replicate, length-append, length-replicate}
 use Rattle.refusals.specs.declared.Refusal.{Refusal}
-use Rattle.refusals.specs.declared.Verdict.TheVariants.{Accepted, Refused}
 use Rattle.corrections.specs.Reading.{Entry, said, index_of}
 use Rattle.corrections.specs.declared.Index.{Index}
 use Rattle.history.specs.Sets.{Numbers}

@@ -1,5 +1,6 @@
 -- The corrections that are marked are the closure of the wanted ones, in the words of the theory of selection.
 -- Assumes nothing.
+use Rattle.refusals.specs.Table.{Accepted}
 use mathlib.Core.Path.{◌≡◌, refl, sym, ap, subst, ◌∙◌}
 use mathlib.Core.Bool.{Bool, true, false, false≢true}
 use mathlib.Core.List.{List, [], ◌∷◌, ◌++◌, map}
@@ -10,7 +11,6 @@ use lib.ListN.{length, get_or, take, replicate, length-map, get_or-eq_default}
 use borrow.Author.Tests.{eqb-true, eq-eqb, lt-ltb, ltb-true, ltb-false}
 use Rattle.slices.specs.Part.{member}
 use Rattle.slices.proofs.Cases.{split, or_left, or_right, both}
-use Rattle.refusals.specs.declared.Verdict.TheVariants.{Accepted}
 use Rattle.routes.specs.Places.{Every}
 use Rattle.history.specs.Apply.{Correction, Touches}
 use Rattle.history.specs.Sets.{Numbers, ◌∈◌, ◌⊆◌, numbered, last_on, Closed, closure}

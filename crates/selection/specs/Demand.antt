@@ -1,11 +1,11 @@
 -- What is promised of a pick, the third demand, of where a log fails, and of the reasons that are given for a pick. The theory's words stand in history's specs (Format, Apply, Sets, Demand); in applying's
 -- specs/Procedures `procedures` is this product's format, and `log_of` says a legal log's corrections in the theory's words.
 -- Assumes nothing.
+use Rattle.refusals.specs.Table.{Accepted}
 use Rattle.std.specs.Prelude.{◌≡◌, true, false, ◌⊎◌, ℕ, ◌+◌, ◌-◌, ◌≤◌, ◌<◌, length, take, drop}
 use mathlib.Core.List.{List, ◌∷◌, ◌++◌, map, Memᴰ}
 use Rattle.std.proofs.Math.Option.{none, some}
 use Rattle.refusals.specs.declared.Refusal.{Refusal}
-use Rattle.refusals.specs.declared.Verdict.TheVariants.{Accepted}
 use Rattle.corrections.specs.Reading.{Entry, refused, said, read_log}
 use Rattle.corrections.specs.Text.{LegalLog}
 use Rattle.routes.specs.Files.{file_verdict}

@@ -1,8 +1,7 @@
 -- Where a log fails: its refusal, with the line that can't be applied, or the route that is refused.
 -- Assumes nothing.
-use Rattle.std.specs.Prelude.{ℕ, zero, suc, cond, List, [], ◌∷◌, eqb, take}
-use Rattle.refusals.specs.declared.Verdict.{Verdict}
-use Rattle.refusals.specs.declared.Verdict.TheVariants.{Accepted, Refused}
+use Rattle.refusals.specs.Table.{Verdict}
+use Rattle.std.specs.Prelude.{ℕ, zero, suc, cond, List, [], ◌∷◌, eqb, take, Ok, Err}
 use Rattle.corrections.specs.Reading.{Entry, Reading, refused, said}
 use Rattle.applying.specs.Correct.{no_more, Outcome, stopped, reached, fault_as}
 use Rattle.applying.specs.declared.Fault.{Fault}
@@ -31,8 +30,8 @@ unfoldable pub failure_as : (log : List ℕ) → Outcome → Failure
 failure_as log o = failure_with log (outcome_verdict o) (fault_of o)
 
 abbrev pub judged_then : Verdict → Outcome → Outcome
-judged_then Accepted o = o
-judged_then (Refused r) o = stopped r no_more
+judged_then (Ok _) o = o
+judged_then (Err r) o = stopped r no_more
 
 module _ (frozen log : List ℕ) where
   -- where a log fails over its frozen file

@@ -1,8 +1,8 @@
 -- What adding to a wish does: the words of it for this product. The theory's words stand in history's specs/Growing.
 -- Assumes nothing.
+use Rattle.refusals.specs.Table.{Accepted}
 use Rattle.std.specs.Prelude.{◌≡◌, ℕ, ◌≤◌, length}
 use mathlib.Core.List.{List, map, flatten, Memᴰ}
-use Rattle.refusals.specs.declared.Verdict.TheVariants.{Accepted}
 use Rattle.corrections.specs.Text.{LegalLog}
 use Rattle.routes.specs.Sources.{records}
 use Rattle.history.specs.Apply.{Op, Touches}

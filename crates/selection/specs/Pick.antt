@@ -1,12 +1,10 @@
 -- The pick: what is refused and in which order, the corrections taken, and the records of the new file by their sources.
 -- Assumes nothing.
-use Rattle.std.specs.Prelude.{ℕ, zero, suc, ◌+◌, ◌≡◌, true, cond, ◌||◌, List, [], ◌∷◌, ◌++◌, map, eqb, ltb, length, get_or}
+use Rattle.std.specs.Prelude.{ℕ, zero, suc, ◌+◌, ◌≡◌, true, cond, ◌||◌, List, [], ◌∷◌, ◌++◌, map, eqb, ltb, length, get_or, Ok, Err}
 use Rattle.std.proofs.lemmas.List.Edits.{sets}
 use Rattle.slices.specs.Part.{part, member, padded}
-use Rattle.refusals.specs.Table.{log_too_long, not_in_log, buffer_too_short}
+use Rattle.refusals.specs.Table.{log_too_long, not_in_log, buffer_too_short, Verdict, Accepted, Refused}
 use Rattle.refusals.specs.declared.Refusal.{Refusal}
-use Rattle.refusals.specs.declared.Verdict.{Verdict}
-use Rattle.refusals.specs.declared.Verdict.TheVariants.{Accepted, Refused}
 use Rattle.history.specs.Sets.{Numbers, closure}
 use Rattle.corrections.specs.Reading.{Entry, Reading, refused, said, read_log, index_of}
 use Rattle.corrections.specs.declared.Index.{Index}
@@ -29,8 +27,8 @@ unfoldable pub length_stage : List ℕ → Verdict
 length_stage log = cond (ltb 60000 (length log)) (Refused log_too_long) Accepted
 
 abbrev pub if_accepted : Verdict → Reading → Reading
-if_accepted Accepted reading = reading
-if_accepted (Refused r) reading = refused r
+if_accepted (Ok _) reading = reading
+if_accepted (Err r) reading = refused r
 
 -- "13 for length, 2, the file, the log line by line"
 unfoldable pub opened : (frozen log : List ℕ) → Reading
@@ -78,8 +76,8 @@ pub data Pick : Type 0 where
   picked : (taken sources : List ℕ) → Pick
 
 abbrev pub judged_first : Verdict → Pick → Pick
-judged_first Accepted p = p
-judged_first (Refused r) p = refused_by r
+judged_first (Ok _) p = p
+judged_first (Err r) p = refused_by r
 
 abbrev pub ran_first : Outcome → (List ℕ → Pick) → Pick
 ran_first (stopped r w) next = refused_by r
@@ -90,8 +88,8 @@ outcome_verdict (stopped r w) = Refused r
 outcome_verdict (reached xs) = Accepted
 
 abbrev pub unless_refused : Verdict → List ℕ → List ℕ
-unless_refused Accepted bytes = bytes
-unless_refused (Refused r) bytes = []
+unless_refused (Ok _) bytes = bytes
+unless_refused (Err r) bytes = []
 
 module _ (frozen log : List ℕ) where
   -- the corrections of a set over the frozen records, where the log has n corrections, and the lines es

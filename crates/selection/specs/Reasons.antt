@@ -1,10 +1,10 @@
 -- Why each correction is taken: it is wanted; or the smallest correction taken that relies on it directly, by the first line of that one whose
 -- route it was the last earlier correction to touch.
 -- Assumes nothing.
+use Rattle.refusals.specs.Table.{Accepted}
 use Rattle.std.specs.Prelude.{ℕ, zero, suc, ◌+◌, ◌-◌, ◌<◌, ◌≡◌, Bool, cond, ◌&&◌, List, [], ◌∷◌, ◌++◌, map, eqb, length, get_or, take, replicate}
 use Rattle.std.proofs.Math.Option.{Option, none, some}
 use Rattle.slices.specs.Part.{padded}
-use Rattle.refusals.specs.declared.Verdict.TheVariants.{Accepted}
 use Rattle.history.specs.Apply.{Correction}
 use Rattle.history.specs.Sets.{Numbers, numbered, last_on}
 use Rattle.corrections.specs.Reading.{Entry, Reading, refused, said}

@@ -36,7 +36,7 @@ pub(crate) fn refused_pick(refusal: Refusal) -> Picked
     ensures { result ≡ picked_as (refused_by refusal) }
 {
     Picked {
-        verdict: Verdict::Refused(refusal),
+        verdict: Err(refusal),
         count: 0,
         taken: [0u32; MOST_CORRECTIONS],
         records: Sources {
@@ -92,7 +92,7 @@ fn carry<'a>(frozen: &'a [u8], log: &'a [u8], index: Index, marks: &[u8]) -> Pic
     let records = new.records;
     let numbers = members.at;
     Picked {
-        verdict: Verdict::Accepted,
+        verdict: Ok(()),
         count: members.count,
         taken: numbers,
         records: records,
@@ -108,8 +108,8 @@ pub(crate) fn pick_from<'a>(frozen: &'a [u8], log: &'a [u8], index: Index, wante
     let failure = chosen.failure;
     let verdict = failure.verdict;
     match verdict {
-        Verdict::Accepted => {}
-        Verdict::Refused(r) => {
+        Ok(()) => {}
+        Err(r) => {
             return refused_pick(r);
         }
     }

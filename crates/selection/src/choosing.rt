@@ -55,7 +55,7 @@ pub(crate) fn failure_by(log: &[u8], refusal: Refusal) -> Failure
 {
     let fault = no_fault();
     Failure {
-        verdict: Verdict::Refused(refusal),
+        verdict: Err(refusal),
         line: 0,
         fault: fault,
     }
@@ -87,8 +87,8 @@ pub(crate) fn choose<'a>(frozen: &'a [u8], log: &'a [u8], index: Index, wanted: 
     let total = index.corrections;
     let judged = within(total, wanted);
     match judged {
-        Verdict::Accepted => {}
-        Verdict::Refused(r) => {
+        Ok(()) => {}
+        Err(r) => {
             let failure = failure_by(log, r);
             return Chosen {
                 failure: failure,
@@ -100,8 +100,8 @@ pub(crate) fn choose<'a>(frozen: &'a [u8], log: &'a [u8], index: Index, wanted: 
     let failure = whole(frozen, log, index);
     let verdict = failure.verdict;
     match verdict {
-        Verdict::Accepted => {}
-        Verdict::Refused(_) => {
+        Ok(()) => {}
+        Err(_) => {
             return Chosen {
                 failure: failure,
                 relied: [0u32; MOST_CHANGES],

@@ -140,8 +140,8 @@ pub(crate) fn reasons_from<'a>(
     let failure = chosen.failure;
     let verdict = failure.verdict;
     match verdict {
-        Verdict::Accepted => {}
-        Verdict::Refused(_) => {
+        Ok(()) => {}
+        Err(_) => {
             return no_reasons(failure);
         }
     }

@@ -69,8 +69,8 @@ pub fn failing<'a>(frozen: &'a [u8], log: &'a [u8]) -> Failure
     let index = opening(frozen, log);
     let opened = index.verdict;
     match opened {
-        Verdict::Accepted => whole(frozen, log, index),
-        Verdict::Refused(r) => failure_by(log, r),
+        Ok(()) => whole(frozen, log, index),
+        Err(r) => failure_by(log, r),
     }
 }
 
@@ -90,8 +90,8 @@ pub fn pick<'a>(frozen: &'a [u8], log: &'a [u8], wanted: &[u32]) -> Picked
     let index = opening(frozen, log);
     let opened = index.verdict;
     match opened {
-        Verdict::Accepted => pick_from(frozen, log, index, wanted),
-        Verdict::Refused(r) => refused_pick(r),
+        Ok(()) => pick_from(frozen, log, index, wanted),
+        Err(r) => refused_pick(r),
     }
 }
 
@@ -103,8 +103,8 @@ pub fn reasons<'a>(frozen: &'a [u8], log: &'a [u8], wanted: &[u32]) -> Explained
     let index = opening(frozen, log);
     let opened = index.verdict;
     match opened {
-        Verdict::Accepted => reasons_from(frozen, log, index, wanted),
-        Verdict::Refused(r) => no_reasons(failure_by(log, r)),
+        Ok(()) => reasons_from(frozen, log, index, wanted),
+        Err(r) => no_reasons(failure_by(log, r)),
     }
 }
 
@@ -151,8 +151,8 @@ pub fn line_of<'a>(frozen: &'a [u8], log: &'a [u8], picked: Picked, n: usize) ->
     let verdict = picked.verdict;
     let records = picked.records;
     match verdict {
-        Verdict::Accepted => line_in(frozen, log, records, n),
-        Verdict::Refused(_) => &frozen[0..0],
+        Ok(()) => line_in(frozen, log, records, n),
+        Err(_) => &frozen[0..0],
     }
 }
 

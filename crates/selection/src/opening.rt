@@ -16,8 +16,8 @@ pub(crate) fn opening(frozen: &[u8], log: &[u8]) -> Index
     }
     let verdict = routes::check(frozen);
     match verdict {
-        Verdict::Accepted => {}
-        Verdict::Refused(r) => {
+        Ok(()) => {}
+        Err(r) => {
             return refused_by(r);
         }
     }
@@ -34,12 +34,12 @@ pub(crate) fn within(corrections: usize, wanted: &[u32]) -> Verdict
     while i < wanted.len() {
         let n = wanted[i] as usize;
         if n == 0 {
-            return Verdict::Refused(Refusal::not_in_log(i + 1));
+            return Err(Refusal::not_in_log(i + 1));
         }
         if corrections < n {
-            return Verdict::Refused(Refusal::not_in_log(i + 1));
+            return Err(Refusal::not_in_log(i + 1));
         }
         i += 1;
     }
-    Verdict::Accepted
+    Ok(())
 }

@@ -9,9 +9,8 @@ use mathlib.Core.Option.{some}
 use Prim.Native.Nat.{ℕ, ◌-◌, ◌≤◌}
 use lib.ListN.{length, replicate}
 use Rattle.slices.specs.Part.{padded}
-use Rattle.refusals.specs.Table.{field_content, companion_blank, needed_blank}
+use Rattle.refusals.specs.Table.{field_content, companion_blank, needed_blank, Accepted, Refused}
 use Rattle.refusals.specs.declared.Refusal.{Refusal}
-use Rattle.refusals.specs.declared.Verdict.TheVariants.{Accepted, Refused}
 use Rattle.columns.specs.Rows.{Leftmost}
 use Rattle.columns.specs.Kinds.{kind_of, layout_of, first_bad_field, bad_byte}
 use Rattle.columns.specs.Words.{ContinuationContent, BadAt}

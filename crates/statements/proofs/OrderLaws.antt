@@ -1,6 +1,7 @@
 -- Each answer is the first in its order that refuses: of a record read alone, of parts written, of a file, of a log over its frozen file, of a
 -- pick, and of a pick whose file is written.
 -- Assumes nothing.
+use Rattle.std.specs.Prelude.{Ok, Err}
 use mathlib.Core.Path.{◌≡◌, refl, sym, ap, subst, ◌∙◌}
 use mathlib.Core.Logic.Iff
 use mathlib.Core.Logic.{◌↔◌}
@@ -12,10 +13,8 @@ use native.Mathlib.Omega.{arith}
 use lib.Dec.{eqb, ltb}
 use borrow.Author.Tests.{eq-eqb, ne_eqb, eqb-true, eqb-false, lt-ltb, ltb-true}
 use Rattle.slices.proofs.Cases.{split, or_iff}
-use Rattle.refusals.specs.Table.{cut_short, field_content, companion_blank, needed_blank}
+use Rattle.refusals.specs.Table.{cut_short, field_content, companion_blank, needed_blank, Verdict, Accepted, Refused}
 use Rattle.refusals.specs.declared.Refusal.{Refusal}
-use Rattle.refusals.specs.declared.Verdict.{Verdict}
-use Rattle.refusals.specs.declared.Verdict.TheVariants.{Accepted, Refused}
 use Rattle.refusals.proofs.VerdictLaws.{never, same_refusal}
 use Rattle.slices.specs.Part.{blank}
 use Rattle.columns.specs.Rows.{Leftmost}
@@ -56,13 +55,13 @@ use Rattle.statements.specs.Order.{record_order, companion_order, needed_stage, 
 in_turn_front : (vs ws : List Verdict) → in_turn (vs ++ ws) ≡ in_turn (in_turn vs ∷ ws)
 unfolding in_turn
 in_turn_front [] ws = refl
-in_turn_front (Accepted ∷ vs) ws = in_turn_front vs ws
-in_turn_front (Refused r ∷ vs) ws = refl
+in_turn_front (Ok _ ∷ vs) ws = in_turn_front vs ws
+in_turn_front (Err r ∷ vs) ws = refl
 
 in_turn_next : (v : Verdict) (us ws : List Verdict) → in_turn us ≡ in_turn ws → in_turn (v ∷ us) ≡ in_turn (v ∷ ws)
 unfolding in_turn
-in_turn_next Accepted us ws e = e
-in_turn_next (Refused r) us ws e = refl
+in_turn_next (Ok _) us ws e = e
+in_turn_next (Err r) us ws e = refl
 
 -- a stage with others behind it
 stage_turn : (c : ℕ) (f : ℕ → Refusal) (vs : List Verdict) → stage c f (in_turn vs) ≡ in_turn (stage c f Accepted ∷ vs)
@@ -197,10 +196,10 @@ module _ (frozen log : List ℕ) where
   log_turn : (u v : Verdict) (read : Reading)
       → log_judged frozen log (if_accepted (in_turn (u ∷ v ∷ [])) read) ≡ in_turn (u ∷ v ∷ lines_stage read ∷ corrections_stage frozen log read ∷ [])
   unfolding in_turn
-  log_turn (Refused r) v read = refl
-  log_turn Accepted (Refused r) read = refl
-  log_turn Accepted Accepted (refused r) = refl
-  log_turn Accepted Accepted (said n es) = sym (turns.alone (outcome_verdict (carried frozen log everything n es)))
+  log_turn (Err r) v read = refl
+  log_turn (Ok _) (Err r) read = refl
+  log_turn (Ok _) (Ok _) (refused r) = refl
+  log_turn (Ok _) (Ok _) (said n es) = sym (turns.alone (outcome_verdict (carried frozen log everything n es)))
 
   -- A log is refused over its frozen file exactly by the first in the order.
   pub check_first : (r : Refusal) → (log_verdict frozen log ≡ Refused r) ↔ First r (check_order frozen log)
@@ -222,18 +221,18 @@ module _ (frozen log : List ℕ) where
     both_turn : (v : Verdict) (o : Outcome) (next : List ℕ → Pick) (r : Refusal) → in_turn (v ∷ outcome_verdict o ∷ []) ≡ Refused r
         → judged_first v (ran_first o next) ≡ refused_by r
     unfolding in_turn
-    both_turn (Refused s) o next r e = ap refused_by (same_refusal e)
-    both_turn Accepted (stopped s w) next r e = ap refused_by (same_refusal e)
-    both_turn Accepted (reached xs) next r e = absurd (never (sym e))
+    both_turn (Err s) o next r e = ap refused_by (same_refusal e)
+    both_turn (Ok _) (stopped s w) next r e = ap refused_by (same_refusal e)
+    both_turn (Ok _) (reached xs) next r e = absurd (never (sym e))
 
     -- the first that refuses is what the pick is refused by
     stage_refuses : (u v : Verdict) (read : Reading) (r : Refusal) → in_turn (stages u v read) ≡ Refused r
         → pick_from frozen log ws (if_accepted (in_turn (u ∷ v ∷ [])) read) ≡ refused_by r
     unfolding in_turn stages
-    stage_refuses (Refused s) v read r e = ap refused_by (same_refusal e)
-    stage_refuses Accepted (Refused s) read r e = ap refused_by (same_refusal e)
-    stage_refuses Accepted Accepted (refused s) r e = ap refused_by (same_refusal e)
-    stage_refuses Accepted Accepted (said n es) r e = both_turn (wanted_stage n 1 ws) (carried frozen log everything n es) _ r e
+    stage_refuses (Err s) v read r e = ap refused_by (same_refusal e)
+    stage_refuses (Ok _) (Err s) read r e = ap refused_by (same_refusal e)
+    stage_refuses (Ok _) (Ok _) (refused s) r e = ap refused_by (same_refusal e)
+    stage_refuses (Ok _) (Ok _) (said n es) r e = both_turn (wanted_stage n 1 ws) (carried frozen log everything n es) _ r e
 
     pick_turn : (r : Refusal) → in_turn (pick_order frozen log ws) ≡ Refused r → pick_of frozen log ws ≡ refused_by r
     unfolding pick_of opened stages
@@ -250,16 +249,16 @@ module _ (frozen log : List ℕ) where
 
     both_pass : (v : Verdict) (o : Outcome) → in_turn (v ∷ outcome_verdict o ∷ []) ≡ Accepted → (v ≡ Accepted) × (xs : List ℕ) × (o ≡ reached xs)
     unfolding in_turn
-    both_pass (Refused s) o e = absurd (never e)
-    both_pass Accepted (stopped s w) e = absurd (never e)
-    both_pass Accepted (reached xs) e = (refl, xs, refl)
+    both_pass (Err s) o e = absurd (never e)
+    both_pass (Ok _) (stopped s w) e = absurd (never e)
+    both_pass (Ok _) (reached xs) e = (refl, xs, refl)
 
     stages_pass : (u v : Verdict) (read : Reading) → in_turn (stages u v read) ≡ Accepted → Passes u v read
     unfolding in_turn stages
-    stages_pass (Refused s) v read e = absurd (never e)
-    stages_pass Accepted (Refused s) read e = absurd (never e)
-    stages_pass Accepted Accepted (refused s) e = absurd (never e)
-    stages_pass Accepted Accepted (said n es) e =
+    stages_pass (Err s) v read e = absurd (never e)
+    stages_pass (Ok _) (Err s) read e = absurd (never e)
+    stages_pass (Ok _) (Ok _) (refused s) e = absurd (never e)
+    stages_pass (Ok _) (Ok _) (said n es) e =
         let (w, xs, all) = both_pass (wanted_stage n 1 ws) (carried frozen log everything n es) e in
         record { count = n; entries = es; opens = refl; numbers = w; last = xs; all = all }
 
@@ -276,8 +275,8 @@ module _ (frozen log : List ℕ) where
     in_order_lem r = (λ e. by (in_turn (pick_order frozen log ws)) refl e, pick_turn r)
       where
         by : (v : Verdict) → in_turn (pick_order frozen log ws) ≡ v → pick_of frozen log ws ≡ refused_by r → in_turn (pick_order frozen log ws) ≡ Refused r
-        by Accepted t e = let (ns, xs, q) = pick_passes t in absurd (picked_not_refused (sym e ∙ q))
-        by (Refused s) t e = t ∙ ap Refused (same_refused (sym (pick_turn s t) ∙ e))
+        by (Ok _) t e = let (ns, xs, q) = pick_passes t in absurd (picked_not_refused (sym e ∙ q))
+        by (Err s) t e = t ∙ ap Refused (same_refused (sym (pick_turn s t) ∙ e))
 
     -- A pick is refused exactly by the first in the order.
     pub pick_first : (r : Refusal) → (pick_of frozen log ws ≡ refused_by r) ↔ First r (pick_order frozen log ws)
@@ -339,8 +338,8 @@ module _ (frozen log : List ℕ) where
       routes : (ys : List ℕ) → lines_applied frozen log es xs ≡ some ys → (v : Verdict) → touched_judged frozen log es 0 ys ≡ v
           → outcome_verdict (onward (after_judging n ys (refused_route frozen log es 0 ys) v) (ran frozen log everything (n + 1) ess)) ≡ Refused r
           → FirstCorrection frozen log n (es ∷ ess) xs r
-      routes ys q Accepted t h = behind q t (rest ys h)
-      routes ys q (Refused s) t h = subst (FirstCorrection frozen log n (es ∷ ess) xs) (same_refusal h) (route q t)
+      routes ys q (Ok _) t h = behind q t (rest ys h)
+      routes ys q (Err s) t h = subst (FirstCorrection frozen log n (es ∷ ess) xs) (same_refusal h) (route q t)
 
       applied : (o : Option (List ℕ)) → lines_applied frozen log es xs ≡ o
           → outcome_verdict (onward (after_lines frozen log true n es (fails_at frozen log es xs) o) (ran frozen log everything (n + 1) ess)) ≡ Refused r

@@ -131,7 +131,7 @@ unique_refusal_no_room κs a x y v w p q = (p ∙ sym q, refl)
 pub unique_refusal_buffer_too_short : Determined refusals.Refusal.buffer_too_short.Kinds.ps refusals.Refusal.buffer_too_short.Kinds.r refusals.Refusal.buffer_too_short.Reads.Post
 unique_refusal_buffer_too_short κs a x y v w p q = (p ∙ sym q, refl)
 
-pub unique_verdict_stated : Determined refusals.Verdict.stated.Kinds.ps refusals.Verdict.stated.Kinds.r refusals.Verdict.stated.Reads.Post
+pub unique_verdict_stated : Determined refusals.stated.Kinds.ps refusals.stated.Kinds.r refusals.stated.Reads.Post
 unique_verdict_stated κs a x y v w p q = (p ∙ sym q, refl)
 
 -- ---- columns

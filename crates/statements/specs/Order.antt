@@ -5,10 +5,8 @@
 use Rattle.std.specs.Prelude.{ℕ, ◌+◌, ◌<◌, ◌≡◌, Bool, cond, ◌&&◌, ◌⊎◌, List, [], ◌∷◌, ◌++◌, map, eqb, ltb, length}
 use Prim.Native.Char.{code}
 use Rattle.std.proofs.Math.Option.{none, some}
-use Rattle.refusals.specs.Table.{cut_short, field_content, companion_blank, needed_blank, does_not_apply, route_refused, not_in_log, buffer_too_short}
+use Rattle.refusals.specs.Table.{cut_short, field_content, companion_blank, needed_blank, does_not_apply, route_refused, not_in_log, buffer_too_short, Verdict, Accepted, Refused}
 use Rattle.refusals.specs.declared.Refusal.{Refusal}
-use Rattle.refusals.specs.declared.Verdict.{Verdict}
-use Rattle.refusals.specs.declared.Verdict.TheVariants.{Accepted, Refused}
 use Rattle.slices.specs.Part.{blank}
 use Rattle.columns.specs.Rows.{byte_in}
 use Rattle.columns.specs.Fields.{field, bytes_in}

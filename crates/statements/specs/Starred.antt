@@ -9,9 +9,7 @@ use Rattle.std.proofs.Math.Option.{Option, none, some, bind}
 use Prim.Native.String.{String}
 use Rattle.columns.specs.Patterns.{codes}
 use Rattle.columns.specs.Samples.{◌at◌is◌, approach, full, notes}
-use Rattle.refusals.specs.Table.{refusal}
-use Rattle.refusals.specs.declared.Verdict.{Verdict}
-use Rattle.refusals.specs.declared.Verdict.TheVariants.{Accepted, Refused}
+use Rattle.refusals.specs.Table.{refusal, Verdict, Accepted, Refused}
 use Rattle.fields.specs.Quantities.{feet_of}
 use Rattle.parts.specs.Record.{reading_of}
 use Rattle.parts.specs.declared.Parts.{Parts}

@@ -26,8 +26,8 @@ fn print_number(to: &mut impl Write, n: usize) -> io::Result<()> {
 
 fn print_verdict(to: &mut impl Write, v: Verdict) -> io::Result<()> {
     match v {
-        Verdict::Accepted => print(to, b"yes\n"),
-        Verdict::Refused(r) => {
+        Ok(()) => print(to, b"yes\n"),
+        Err(r) => {
             print(to, b"no\t")?;
             print_number(to, r.number as usize)?;
             print(to, b"\t")?;

@@ -50,13 +50,13 @@ fn print_index(to: &mut impl Write, index: Index) -> io::Result<()> {
     let verdict = index.verdict;
     let count = index.count;
     match verdict {
-        Verdict::Accepted => {
+        Ok(()) => {
             print(to, b"yes")?;
             print_number(to, index.corrections)?;
             print_number(to, count)?;
             print_lines(to, index, count)?;
         }
-        Verdict::Refused(r) => {
+        Err(r) => {
             print(to, b"no")?;
             print_number(to, r.number as usize)?;
             print_number(to, r.place)?;

@@ -56,8 +56,8 @@ fn print_refusal(to: &mut impl Write, r: Refusal) -> io::Result<()> {
 
 fn print_verdict(to: &mut impl Write, v: Verdict) -> io::Result<()> {
     match v {
-        Verdict::Accepted => print(to, b"\tyes"),
-        Verdict::Refused(r) => {
+        Ok(()) => print(to, b"\tyes"),
+        Err(r) => {
             print(to, b"\tno")?;
             print_refusal(to, r)
         }
@@ -170,14 +170,14 @@ fn print_picked(to: &mut impl Write, picked: Picked) -> io::Result<()> {
     let verdict = picked.verdict;
     print_verdict(to, verdict)?;
     match verdict {
-        Verdict::Accepted => {
+        Ok(()) => {
             let records = picked.records;
             print_number(to, picked.count as u64)?;
             print_number(to, records.count as u64)?;
             print_taken(to, picked, picked.count)?;
             print_sources(to, records, records.count)
         }
-        Verdict::Refused(_) => Ok(()),
+        Err(_) => Ok(()),
     }
 }
 
@@ -216,11 +216,11 @@ fn print_explained(to: &mut impl Write, explained: Explained) -> io::Result<()> 
     let verdict = failure.verdict;
     print_verdict(to, verdict)?;
     match verdict {
-        Verdict::Accepted => {
+        Ok(()) => {
             print_number(to, explained.count as u64)?;
             print_reasons(to, explained, explained.count)
         }
-        Verdict::Refused(_) => Ok(()),
+        Err(_) => Ok(()),
     }
 }
 
@@ -240,7 +240,7 @@ fn refused(picked: Picked) -> Picked {
     let taken = picked.taken;
     let records = picked.records;
     Picked {
-        verdict: Verdict::Refused(Refusal::buffer_too_short()),
+        verdict: Err(Refusal::buffer_too_short()),
         count: picked.count,
         taken,
         records,

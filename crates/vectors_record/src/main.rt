@@ -36,8 +36,8 @@ fn print_number(to: &mut impl Write, n: usize) -> io::Result<()> {
 
 fn print_verdict(to: &mut impl Write, v: Verdict) -> io::Result<()> {
     match v {
-        Verdict::Accepted => print(to, b"yes\n"),
-        Verdict::Refused(r) => {
+        Ok(()) => print(to, b"yes\n"),
+        Err(r) => {
             print(to, b"no\t")?;
             print_number(to, r.number as usize)?;
             print(to, b"\t")?;
@@ -808,7 +808,7 @@ fn print_column(to: &mut impl Write, base: [u8; 132], column: usize) -> io::Resu
     let mut b = 0;
     while b < 256 {
         rec[column] = (b % 256) as u8;
-        let said = leg::judge(&rec, 0).stated();
+        let said = refusals::stated(leg::judge(&rec, 0));
         if (said.number != number) | (said.column != at) {
             if 0 < b {
                 print_run(to, from, b - 1, number, at)?;

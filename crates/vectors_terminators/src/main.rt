@@ -83,7 +83,7 @@ fn print_pairs(to: &mut impl Write, base: [u8; 132]) -> io::Result<()> {
     while pair < 65536 {
         rec[47] = (pair / 256 % 256) as u8;
         rec[48] = (pair % 256) as u8;
-        let said = leg::judge(&rec, 1).stated();
+        let said = refusals::stated(leg::judge(&rec, 1));
         print_answer(to, rec, said.number, said.column)?;
         accepted += one_if(is_accepted(said.number));
         refused += one_if(is_refused_at_48(said.number, said.column));

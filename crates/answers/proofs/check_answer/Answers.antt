@@ -7,13 +7,13 @@ use Rattle.answers.proofs.check_answer.Goals as goal
 pub returns-then-out-lt-LONGEST_CHECK : goal.returns-then-out-lt-LONGEST_CHECK
 returns-then-out-lt-LONGEST_CHECK c = left_clear _ _ _ c.if-out-lt-LONGEST_CHECK.true c.too_short.ensures
 
-pub returns-in-Accepted : goal.returns-in-Accepted
-returns-in-Accepted c = let sources = c.sources_of-sources.ensures in
-    let text = check_accepted _ _ c.check_log-verdict.ensures c.in-Accepted.is sources c.index_of-index.ensures in
+pub returns-in-Ok : goal.returns-in-Ok
+returns-in-Ok c = let sources = c.sources_of-sources.ensures in
+    let text = check_accepted _ _ c.check_log-verdict.ensures c.in-Ok.is sources c.index_of-index.ensures in
     let room = c.if-out-lt-LONGEST_CHECK.false in
     left_wrote _ _ room c.clear.ensures (rw text at c.put_counts.ensures.0) (check_fits _ _) c.written.ensures
 
-pub returns-in-Refused : goal.returns-in-Refused
-returns-in-Refused c = let text = check_refused _ _ c.check_log-verdict.ensures c.in-Refused.is in
+pub returns-in-Err : goal.returns-in-Err
+returns-in-Err c = let text = check_refused _ _ c.check_log-verdict.ensures c.in-Err.is in
     let room = c.if-out-lt-LONGEST_CHECK.false in
-    left_wrote _ _ room c.clear.ensures (rw text at c.put_no.ensures.0) (check_fits _ _) c.written-in-Refused.ensures
+    left_wrote _ _ room c.clear.ensures (rw text at c.put_no.ensures.0) (check_fits _ _) c.written-in-Err.ensures

@@ -18,15 +18,15 @@ pub overflow_mul-records : goal.overflow_mul-records
 overflow_mul-records c = let few = file_few _ _ _ _ _ c.if-out-lt-LONGEST_FILE.false (wanted_numbers _ c.numbers-wanted.ensures) c.new_file-picked.ensures in
     omega (arith, few)
 
-pub returns-in-Accepted : goal.returns-in-Accepted
-returns-in-Accepted c = let room = c.if-out-lt-LONGEST_FILE.false in
+pub returns-in-Ok : goal.returns-in-Ok
+returns-in-Ok c = let room = c.if-out-lt-LONGEST_FILE.false in
     left_whole _ _ _ room
-    (file_answered _ _ _ _ _ room (wanted_numbers _ c.numbers-wanted.ensures) c.new_file-picked.ensures c.in-Accepted.is)
+    (file_answered _ _ _ _ _ room (wanted_numbers _ c.numbers-wanted.ensures) c.new_file-picked.ensures c.in-Ok.is)
     c.written.ensures
 
-pub returns-in-Refused : goal.returns-in-Refused
-returns-in-Refused c = let room = c.if-out-lt-LONGEST_FILE.false in
+pub returns-in-Err : goal.returns-in-Err
+returns-in-Err c = let room = c.if-out-lt-LONGEST_FILE.false in
     let wanted = wanted_numbers _ c.numbers-wanted.ensures in
-    let text = refused_text _ _ _ _ _ room wanted c.new_file-picked.ensures c.in-Refused.is in
-    let clear = refused_clear _ _ _ _ _ room wanted c.new_file-picked.ensures c.in-Refused.is in
-    left_wrote _ _ room clear (rw text at c.put_no.ensures.0) (newfile_fits _ _ _) c.written-in-Refused.ensures
+    let text = refused_text _ _ _ _ _ room wanted c.new_file-picked.ensures c.in-Err.is in
+    let clear = refused_clear _ _ _ _ _ room wanted c.new_file-picked.ensures c.in-Err.is in
+    left_wrote _ _ room clear (rw text at c.put_no.ensures.0) (newfile_fits _ _ _) c.written-in-Err.ensures

@@ -2,8 +2,8 @@
 use Rattle.routes.proofs.InTurnLaws.{goes_on, stops}
 use Rattle.routes.proofs.in_turn.Goals as goal
 
-pub returns-in-Accepted : goal.returns-in-Accepted
-returns-in-Accepted c = goes_on _ c.in-Accepted.is
+pub returns-in-Ok : goal.returns-in-Ok
+returns-in-Ok c = goes_on _ c.in-Ok.is
 
-pub returns-in-Refused : goal.returns-in-Refused
-returns-in-Refused c = stops _ c.in-Refused.is
+pub returns-in-Err : goal.returns-in-Err
+returns-in-Err c = stops _ c.in-Err.is

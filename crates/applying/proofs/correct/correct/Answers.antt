@@ -1,8 +1,8 @@
 -- A law for each way that it ends. Assumes nothing.
+use Rattle.refusals.specs.Table.{Refused}
 use Rattle.applying.proofs.RisingLaws.{lines_in_order}
 use Rattle.applying.proofs.CorrectLaws.{not_applied, left_unjudged, correction_stands, route_is_refused}
 use Rattle.applying.proofs.ApplyLaws.{gave_some}
-use Rattle.refusals.specs.declared.Verdict.TheVariants.{Refused}
 use Rattle.slices.proofs.Cases.{is_false, is_true}
 use mathlib.Core.Path.{refl, ap}
 use mathlib.Core.List.{[]}
@@ -20,8 +20,8 @@ judge_touched-judged-requires c = let pre = c.requires in
     let s = gave_some _ _ _ (c.apply_lines-applied.ensures []).0 (is_true _ c.if-not-change.false) in
     ((s.1, search rules), pre.1, pre.2, lines_in_order _ _ _ _ _ _ s.0 pre.4, pre.5)
 
-pub returns-in-Accepted : goal.returns-in-Accepted
-returns-in-Accepted c = λ owners. correction_stands _ _ _ _ _ _ _ _ (c.apply_lines-applied.ensures owners) _ (is_true _ c.if-not-change.false) (is_true _ c.if-not-pass.false) _ (c.judge_touched-judged.ensures _ owners) c.in-Accepted.is refl refl
+pub returns-in-Ok : goal.returns-in-Ok
+returns-in-Ok c = λ owners. correction_stands _ _ _ _ _ _ _ _ (c.apply_lines-applied.ensures owners) _ (is_true _ c.if-not-change.false) (is_true _ c.if-not-pass.false) _ (c.judge_touched-judged.ensures _ owners) c.in-Ok.is refl refl
 
-pub returns-in-Refused : goal.returns-in-Refused
-returns-in-Refused c = λ owners. route_is_refused _ _ _ _ _ _ _ _ (c.apply_lines-applied.ensures owners) _ (is_true _ c.if-not-change.false) (is_true _ c.if-not-pass.false) _ (c.judge_touched-judged.ensures _ owners) c.in-Refused.is (ap Refused c.route_refused.ensures) refl
+pub returns-in-Err : goal.returns-in-Err
+returns-in-Err c = λ owners. route_is_refused _ _ _ _ _ _ _ _ (c.apply_lines-applied.ensures owners) _ (is_true _ c.if-not-change.false) (is_true _ c.if-not-pass.false) _ (c.judge_touched-judged.ensures _ owners) c.in-Err.is (ap Refused c.route_refused.ensures) refl

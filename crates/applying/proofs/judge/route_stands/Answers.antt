@@ -14,8 +14,8 @@ pub judge_route-verdict-requires : goal.judge_route-verdict-requires
 judge_route-verdict-requires c = let w = end_within _ _ _ c.requires.0.0 c.requires.0.1 _ c.count_by_halves-first.ensures _ c.route_end-end.ensures in
     (w.0, omega (arith, w.1, c.requires.0.0), c.requires.0.1, c.requires.2)
 
-pub returns-in-Accepted : goal.returns-in-Accepted
-returns-in-Accepted c = λ t. route_found _ _ _ c.requires.0.0 c.requires.0.1 _ c.requires.1 c.record_at-rec.ensures c.if-rec-lt-KEY.false c.count_by_halves-first.ensures c.route_end-end.ensures c.judge_route-verdict.ensures c.in-Accepted.is
+pub returns-in-Ok : goal.returns-in-Ok
+returns-in-Ok c = λ t. route_found _ _ _ c.requires.0.0 c.requires.0.1 _ c.requires.1 c.record_at-rec.ensures c.if-rec-lt-KEY.false c.count_by_halves-first.ensures c.route_end-end.ensures c.judge_route-verdict.ensures c.in-Ok.is
 
-pub returns-in-Refused : goal.returns-in-Refused
-returns-in-Refused c = λ t. absurd (false≢true t)
+pub returns-in-Err : goal.returns-in-Err
+returns-in-Err c = λ t. absurd (false≢true t)

@@ -18,10 +18,10 @@ correct_if-next-requires c = let pre = c.requires in
     let good = c.well_formed.1.1.1.1.0 in
     (inv.1, omega (arith, pre.1, c.lines_end-to.ensures.1), (search rules, pre.2), search rules, inv.2, pre.4)
 
-pub returns-in-Refused : goal.returns-in-Refused
-returns-in-Refused c = let inv = c.loop-n.invariant in
+pub returns-in-Err : goal.returns-in-Err
+returns-in-Err c = let inv = c.loop-n.invariant in
     let index = c.args.index in
-    subst (Comes _ _) (run_of_rows _ _ _ _ index _) (run_stops _ _ _ _ (counted index.corrections index.count index.kind index.at index.correction) _ _ _ _ _ inv.5 c.loop-n-test.true (c.lines_end-to.ensures.0 _ _) inv.3 c.is_marked-marked.ensures _ _ (c.correct_if-next.ensures _) c.in-Refused.is)
+    subst (Comes _ _) (run_of_rows _ _ _ _ index _) (run_stops _ _ _ _ (counted index.corrections index.count index.kind index.at index.correction) _ _ _ _ _ inv.5 c.loop-n-test.true (c.lines_end-to.ensures.0 _ _) inv.3 c.is_marked-marked.ensures _ _ (c.correct_if-next.ensures _) c.in-Err.is)
 
 pub overflow_add-n-in-loop-n-3 : goal.overflow_add-n-in-loop-n-3
 overflow_add-n-in-loop-n-3 c = omega (arith, c.loop-n-test.true, c.loop-n.invariant.4)
@@ -29,8 +29,8 @@ overflow_add-n-in-loop-n-3 c = omega (arith, c.loop-n-test.true, c.loop-n.invari
 pub loop-n-preserved : goal.loop-n-preserved
 loop-n-preserved c = let inv = c.loop-n.invariant in
     let index = c.args.index in
-    let on = run_goes_on _ _ _ _ (counted index.corrections index.count index.kind index.at index.correction) _ _ _ _ _ inv.5 c.loop-n-test.true (c.lines_end-to.ensures.0 _ _) inv.3 c.is_marked-marked.ensures _ _ (c.correct_if-next.ensures _) c.in-Accepted.is in
-    let order = order_goes_on _ _ _ _ (counted index.corrections index.count index.kind index.at index.correction) _ _ _ _ _ inv.5 c.loop-n-test.true (c.lines_end-to.ensures.0 _ _) inv.3 c.is_marked-marked.ensures _ _ (c.correct_if-next.ensures _) _ c.in-Accepted.is inv.2 in
+    let on = run_goes_on _ _ _ _ (counted index.corrections index.count index.kind index.at index.correction) _ _ _ _ _ inv.5 c.loop-n-test.true (c.lines_end-to.ensures.0 _ _) inv.3 c.is_marked-marked.ensures _ _ (c.correct_if-next.ensures _) c.in-Ok.is in
+    let order = order_goes_on _ _ _ _ (counted index.corrections index.count index.kind index.at index.correction) _ _ _ _ _ inv.5 c.loop-n-test.true (c.lines_end-to.ensures.0 _ _) inv.3 c.is_marked-marked.ensures _ _ (c.correct_if-next.ensures _) _ c.in-Ok.is inv.2 in
     (search rules, (on.0, search rules), order, c.lines_end-to.ensures.1, inv.4, on.1)
 
 pub returns : goal.returns

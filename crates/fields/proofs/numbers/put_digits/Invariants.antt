@@ -8,6 +8,3 @@ use Rattle.fields.proofs.numbers.put_digits.Given as goal
 
 abbrev pub invariant-loop-k : goal.invariant-loop-k
 invariant-loop-k l = (l.k ≤ l.width) × (l.rest < 10 ^ (l.width - l.k)) × (sets l.initial.out l.at (digits_of l.width l.n) ≡ put_left l.at l.width l.out l.rest l.k)
-
-abbrev pub decreases-loop-k : goal.decreases-loop-k
-decreases-loop-k l = l.width - l.k

@@ -8,8 +8,8 @@ returns-then-source-eq-LAST_SOURCE c = learns_last _ _ _ _ c.if-source-eq-LAST_S
 pub returns-then-known-i : goal.returns-then-known-i
 returns-then-known-i c = learns_past _ _ _ _ c.if-source-eq-LAST_SOURCE.false c.slot-i.ensures c.if-known-i.true
 
-pub returns-in-Accepted : goal.returns-in-Accepted
-returns-in-Accepted c = learns _ _ _ _ c.if-source-eq-LAST_SOURCE.false c.slot-i.ensures c.record_at-rec.ensures c.judge-verdict.ensures c.in-Accepted.is
+pub returns-in-Ok : goal.returns-in-Ok
+returns-in-Ok c = learns _ _ _ _ c.if-source-eq-LAST_SOURCE.false c.slot-i.ensures c.record_at-rec.ensures c.judge-verdict.ensures c.in-Ok.is
 
-pub returns-in-Refused : goal.returns-in-Refused
-returns-in-Refused c = learns_not _ _ _ _ c.if-source-eq-LAST_SOURCE.false c.slot-i.ensures c.record_at-rec.ensures c.judge-verdict.ensures c.in-Refused.is
+pub returns-in-Err : goal.returns-in-Err
+returns-in-Err c = learns_not _ _ _ _ c.if-source-eq-LAST_SOURCE.false c.slot-i.ensures c.record_at-rec.ensures c.judge-verdict.ensures c.in-Err.is

@@ -4,4 +4,4 @@ use Rattle.fields.proofs.continuation.Continuation.of.Goals as goal
 
 pub returns : goal.returns
 unfolding continuation_of
-returns c = simp (c.of-3.ensures, c.of-2.ensures, c.byte_in.ensures, c.of.ensures)
+returns c = simp (c.of-2.ensures, c.letter_in.ensures, c.byte_in.ensures, c.of.ensures)

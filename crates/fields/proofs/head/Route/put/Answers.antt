@@ -9,13 +9,13 @@ use Rattle.fields.proofs.head.Route.put.Goals as goal
 pub returns : goal.returns
 unfolding put_all route_pieces
 returns c = skip _ _
-    (over _ _ _ _ c.put-5.ensures
+    (over _ _ _ _ c.put.ensures
     (over _ _ _ _ c.put_byte-4.ensures
-    (over _ _ _ _ c.put-4.ensures
+    (over _ _ _ _ c.put_text-4.ensures
     (over _ _ _ _ c.put_byte-3.ensures
-    (over _ _ _ _ c.put-3.ensures
-    (over _ _ _ _ c.put-2.ensures
+    (over _ _ _ _ c.put_text-3.ensures
+    (over _ _ _ _ c.put_text-2.ensures
     (skip _ _
     (over _ _ _ _ c.put_byte-2.ensures
-    (over _ _ _ _ c.put.ensures
+    (over _ _ _ _ c.put_text.ensures
     (over _ _ _ _ c.put_byte.ensures refl))))))))))

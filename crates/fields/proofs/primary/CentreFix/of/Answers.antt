@@ -4,4 +4,4 @@ use Rattle.fields.proofs.primary.CentreFix.of.Goals as goal
 
 pub returns : goal.returns
 unfolding centre_fix_of
-returns c = simp (c.byte_in.ensures, c.of-4.ensures, c.of-3.ensures, c.of-2.ensures, c.of.ensures)
+returns c = simp (c.byte_in.ensures, c.letter_in-2.ensures, c.word_in-2.ensures, c.letter_in.ensures, c.word_in.ensures)

@@ -4,4 +4,4 @@ use Rattle.fields.proofs.primary.Navaid.of.Goals as goal
 
 pub returns : goal.returns
 unfolding navaid_of
-returns c = simp (c.byte_in.ensures, c.of-3.ensures, c.of-2.ensures, c.of.ensures)
+returns c = simp (c.byte_in.ensures, c.letter_in.ensures, c.word_in-2.ensures, c.word_in.ensures)

@@ -5,11 +5,11 @@ use mathlib.Core.Bool.{Bool, ◌&&◌}
 use mathlib.Core.Path.{sym, ap, ◌∙◌}
 use Rattle.fields.proofs.ReadLaws.{distance_minutes, distance_miles}
 use mathlib.Core.Path.{sym, ◌∙◌}
-use Rattle.fields.specs.Quantities.{distance_of}
+use Rattle.fields.specs.Optional.{unless_blank}
 use Rattle.fields.proofs.quantities.Distance.of.Goals as goal
 
 pub returns-then-blank_in : goal.returns-then-blank_in
-unfolding distance_of
+unfolding unless_blank
 returns-then-blank_in c = simp (sym c.blank_in.ensures ∙ c.if-blank_in.true)
 
 pub returns-then-is_holding-byte_in : goal.returns-then-is_holding-byte_in
