@@ -2,7 +2,7 @@
 -- found there is it.
 -- Assumes nothing.
 use mathlib.Core.Path.{◌≡◌, refl, sym, ap, subst, ◌∙◌}
-use mathlib.Core.Logic.{◌↔◌, ⊎_elim}
+use mathlib.Core.Logic.{◌↔◌, ◌⊎◌, inl, inr, ⊎_elim}
 use mathlib.Core.Bool.{Bool, true, false, cond, ◌&&◌, ◌||◌, or-false, false≢true}
 use mathlib.Core.List.Memᴰ
 use mathlib.Core.List.{List, [], ◌∷◌, ◌++◌, map, Memᴰ}
@@ -228,3 +228,42 @@ recognised_iff f = (to, from)
 
     from : OneOf terminators f → found_at f < 23
     from m = let r = named f m in omega (arith, (found_iff f r.0).1 r.1, number_within r.0)
+
+-- the code names those that end at a fix, and the holdings, one by one
+pub ends : (t : Terminator) → (t ≡ If) ⊎ (t ≡ Tf) ⊎ (t ≡ Cf) ⊎ (t ≡ Df) ⊎ (t ≡ Af) ⊎ (t ≡ Rf) ⊎ (t ≡ Ha) ⊎ (t ≡ Hf) ⊎ (t ≡ Hm) → true ≡ ends_at_fix t
+unfolding ends_at_fix among name_of terminator_number texts codes terminators equal order
+ends t (inl e) = rw e
+ends t (inr (inl e)) = rw e
+ends t (inr (inr (inl e))) = rw e
+ends t (inr (inr (inr (inl e)))) = rw e
+ends t (inr (inr (inr (inr (inl e))))) = rw e
+ends t (inr (inr (inr (inr (inr (inl e)))))) = rw e
+ends t (inr (inr (inr (inr (inr (inr (inl e))))))) = rw e
+ends t (inr (inr (inr (inr (inr (inr (inr (inl e)))))))) = rw e
+ends t (inr (inr (inr (inr (inr (inr (inr (inr e)))))))) = rw e
+
+pub ends_not : (t : Terminator) → (t ≡ If → ⊥) → (t ≡ Tf → ⊥) → (t ≡ Cf → ⊥) → (t ≡ Df → ⊥) → (t ≡ Af → ⊥) → (t ≡ Rf → ⊥) → (t ≡ Ha → ⊥) → (t ≡ Hf → ⊥) → (t ≡ Hm → ⊥) → false ≡ ends_at_fix t
+unfolding ends_at_fix among name_of terminator_number texts codes terminators equal order
+ends_not If n _ _ _ _ _ _ _ _ = absurd (n refl)
+ends_not Tf _ n _ _ _ _ _ _ _ = absurd (n refl)
+ends_not Cf _ _ n _ _ _ _ _ _ = absurd (n refl)
+ends_not Df _ _ _ n _ _ _ _ _ = absurd (n refl)
+ends_not Af _ _ _ _ n _ _ _ _ = absurd (n refl)
+ends_not Rf _ _ _ _ _ n _ _ _ = absurd (n refl)
+ends_not Ha _ _ _ _ _ _ n _ _ = absurd (n refl)
+ends_not Hf _ _ _ _ _ _ _ n _ = absurd (n refl)
+ends_not Hm _ _ _ _ _ _ _ _ n = absurd (n refl)
+ends_not _ _ _ _ _ _ _ _ _ _ = refl
+
+pub holds : (t : Terminator) → (t ≡ Ha) ⊎ (t ≡ Hf) ⊎ (t ≡ Hm) → true ≡ is_holding t
+unfolding is_holding among name_of terminator_number texts codes terminators equal order
+holds t (inl e) = rw e
+holds t (inr (inl e)) = rw e
+holds t (inr (inr e)) = rw e
+
+pub holds_not : (t : Terminator) → (t ≡ Ha → ⊥) → (t ≡ Hf → ⊥) → (t ≡ Hm → ⊥) → false ≡ is_holding t
+unfolding is_holding among name_of terminator_number texts codes terminators equal order
+holds_not Ha n _ _ = absurd (n refl)
+holds_not Hf _ n _ = absurd (n refl)
+holds_not Hm _ _ n = absurd (n refl)
+holds_not _ _ _ _ = refl

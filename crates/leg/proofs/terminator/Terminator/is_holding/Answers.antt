@@ -1,7 +1,9 @@
--- The terminator's place in the table says it. Assumes nothing.
-use Rattle.leg.proofs.TerminatorLaws.{row_of, holdings_table}
+-- Those that are named are, and the others are not. Assumes nothing.
+use Rattle.leg.proofs.TerminatorLaws.{holds, holds_not}
 use Rattle.leg.proofs.terminator.Terminator.is_holding.Goals as goal
 
-pub returns : goal.returns
-unfolding holdings_table
-returns c = rw c.number-n.ensures.0 (row_of c.args.self).its_holding
+pub returns-in-Ha : goal.returns-in-Ha
+returns-in-Ha c = holds _ c.in-Ha.is
+
+pub returns-in_default : goal.returns-in_default
+returns-in_default c = let d = c.in_default in holds_not _ d.not-Ha d.not-Hf d.not-Hm
