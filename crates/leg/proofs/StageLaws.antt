@@ -28,7 +28,6 @@ use Rattle.leg.specs.Stages.{found, odd_one, missing}
 use Rattle.leg.specs.Terminator.{terminator_number, terminator_of, in_line}
 use Rattle.leg.specs.declared.stages.Needable.{Needable}
 use Rattle.leg.specs.declared.terminator.Terminator.{Terminator}
-use Rattle.leg.proofs.TerminatorLaws.{needed_table, row_needs}
 
 module _ {c x : ℕ} (f : ℕ → Refusal) (next : Verdict) (e : x ≡ c) where
   pub stage_refuses : {r : Refusal} → (x ≡ 0 → ⊥) → r ≡ f x → Refused r ≡ stage c f next

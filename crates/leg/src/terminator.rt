@@ -210,6 +210,7 @@ impl Terminator {
     }
 
     // Whether the leg ends at a fix.
+    #[tactic(auto, using(crate::proofs::TerminatorLaws::ends, crate::proofs::TerminatorLaws::ends_not))]
     pub fn ends_at_fix(self) -> bool
         ensures { result ≡ ends_at_fix self }
     {
@@ -228,6 +229,7 @@ impl Terminator {
     }
 
     // Whether the leg is a holding.
+    #[tactic(auto, using(crate::proofs::TerminatorLaws::holds, crate::proofs::TerminatorLaws::holds_not))]
     pub fn is_holding(self) -> bool
         ensures { result ≡ is_holding self }
     {
