@@ -21,7 +21,8 @@ use Rattle.columns.specs.Patterns.{fits_all, any_of}
 use Rattle.columns.specs.Rows.{Alternative, Row, stands, alternative_ok, matches, row_ok, EveryRow}
 use Rattle.columns.specs.Layout.{primary}
 use Rattle.columns.specs.Table.{alternatives_at, row_at, rows_at, encode, decode}
-use Rattle.columns.specs.Quick.{Pair, pair_takes, takes, none, pair_no, joined, lines_of, in_lines, lines, pair_at, pairs_at, column_taken, Taken, RowsRight}
+use Rattle.columns.specs.Quick.{Pair, pair_takes, takes, none, pair_no, joined, lines_of, in_lines, lines, pair_at, pairs_at, column_taken, Taken, rows_right}
+use Rattle.columns.specs.declared.row.RowPlace.{RowPlace}
 use Rattle.columns.proofs.Tied.{tied}
 
 abbrev or : Bool → Bool → Bool
@@ -283,40 +284,35 @@ along_from (ps ∷ columns) c rec h =
 
 -- ---- all rows: each is checked, or looked at exactly
 
-unfoldable pub listed : ℕ → ℕ → List ℕ → List ℕ → Bool
-listed p at [] ys = false
-listed p at (x ∷ xs) [] = false
-listed p at (x ∷ xs) (y ∷ ys) = (eqb x p && eqb y at) || listed p at xs ys
+unfoldable pub listed : ℕ → ℕ → List RowPlace → Bool
+listed p at [] = false
+listed p at (r ∷ rs) = (eqb r.place p && eqb r.at at) || listed p at rs
 
-listed_at : (p at : ℕ) (xs ys : List ℕ) → listed p at xs ys ≡ true → (i : ℕ) × (i < length xs) × (get_or xs i 0 ≡ p) × (get_or ys i 0 ≡ at)
-unfolding listed
-listed_at p at [] ys e = absurd (false≢true e)
-listed_at p at (x ∷ xs) [] e = absurd (false≢true e)
-listed_at p at (x ∷ xs) (y ∷ ys) e =
-    ⊎_elim (λ t. (zero, omega arith, eqb-true x p (and_left (eqb x p) (eqb y at) t), eqb-true y at (and_right (eqb x p) (eqb y at) t)))
-    (λ t. let r = listed_at p at xs ys t in (suc r.0, omega (arith, r.1), r.2, r.3)) (either (eqb x p && eqb y at) (listed p at xs ys) e)
-
-unfoldable pub covers : List Row → List (List (List Pair)) → (places indices : List ℕ) → ℕ → ℕ → Bool
+unfoldable pub covers : List Row → List (List (List Pair)) → List RowPlace → ℕ → ℕ → Bool
 unfolding listed row_checked check span up_to255 behind all_fit plain_of any_of fits_all every
-covers [] ns places indices p at = true
-covers (r ∷ rs) [] places indices p at = false
-covers (r ∷ rs) (columns ∷ ns) places indices p at =
+covers [] ns places p at = true
+covers (r ∷ rs) [] places p at = false
+covers (r ∷ rs) (columns ∷ ns) places p at =
     eqb (length columns) r.width
-    && ((listed p at places indices || row_checked columns r.alternatives) && covers rs ns places indices (p + 2 + length r.alternatives * (r.width + 2)) (at + r.width))
+    && ((listed p at places || row_checked columns r.alternatives) && covers rs ns places (p + 2 + length r.alternatives * (r.width + 2)) (at + r.width))
 
 length_alternatives : (t : List ℕ) (n w p : ℕ) → length (alternatives_at t n w p) ≡ n
 unfolding alternatives_at
 length_alternatives t zero w p = refl
 length_alternatives t (suc n) w p = ap suc (length_alternatives t n w (p + 2 + w))
 
-module _ (t places indices rec : List ℕ) (right : RowsRight t places indices rec (length places)) where
-  listed_right : (p at : ℕ) → listed p at places indices ≡ true → row_ok (row_at t p at) rec ≡ true
-  unfolding RowsRight
-  listed_right p at l =
-      let i = listed_at p at places indices l in
-      subst (λ (x : ℕ). row_ok (row_at t x at) rec ≡ true) i.2 (subst (λ (y : ℕ). row_ok (row_at t (get_or places i.0 0) y) rec ≡ true) i.3 (right i.0 i.1))
+listed_right : (t : List ℕ) (places : List RowPlace) (rec : List ℕ) (p at : ℕ) → rows_right t places rec ≡ true → listed p at places ≡ true → row_ok (row_at t p at) rec ≡ true
+unfolding listed
+listed_right t [] rec p at h l = absurd (false≢true l)
+listed_right t (r ∷ rs) rec p at h l =
+    let x = row_ok (row_at t r.place r.at) rec in
+    ⊎_elim (λ k. let hp = eqb-true r.place p (and_left (eqb r.place p) (eqb r.at at) k) in
+    let ha = eqb-true r.at at (and_right (eqb r.place p) (eqb r.at at) k) in
+    subst (λ (y : ℕ). row_ok (row_at t y at) rec ≡ true) hp (subst (λ (y : ℕ). row_ok (row_at t r.place y) rec ≡ true) ha (and_left x (rows_right t rs rec) h)))
+    (λ k. listed_right t rs rec p at (and_right x (rows_right t rs rec) h) k) (either (eqb r.place p && eqb r.at at) (listed p at rs) l)
 
-  covered : (rs : List Row) (ns : List (List (List Pair))) (n p at : ℕ) → rows_at t n p at ≡ rs → covers rs ns places indices p at ≡ true
+module _ (t : List ℕ) (places : List RowPlace) (rec : List ℕ) (right : rows_right t places rec ≡ true) where
+  covered : (rs : List Row) (ns : List (List (List Pair))) (n p at : ℕ) → rows_at t n p at ≡ rs → covers rs ns places p at ≡ true
       → Along (joined ns) at rec → EveryRow rs rec
   unfolding covers rows_at joined
   covered [] ns n p at e c a = tt
@@ -324,8 +320,8 @@ module _ (t places indices rec : List ℕ) (right : RowsRight t places indices r
   covered (r ∷ rs) (columns ∷ ns) zero p at e c a = let z = ap length e in absurd (omega (arith, z))
   covered (r ∷ rs) (columns ∷ ns) (suc n) p at e c a =
       let wide : Bool = eqb (length columns) r.width in
-      let first : Bool = listed p at places indices || row_checked columns r.alternatives in
-      let rest : Bool = covers rs ns places indices (p + 2 + length r.alternatives * (r.width + 2)) (at + r.width) in
+      let first : Bool = listed p at places || row_checked columns r.alternatives in
+      let rest : Bool = covers rs ns places (p + 2 + length r.alternatives * (r.width + 2)) (at + r.width) in
       let l : length columns ≡ r.width = eqb-true (length columns) r.width (and_left wide (first && rest) c) in
       let h : row_at t p at ≡ r = ap (λ (rows : List Row). get_or rows 0 r) e in
       let hw : get_or t p 0 ≡ r.width = ap (λ (x : Row). x.width) h in
@@ -334,9 +330,9 @@ module _ (t places indices rec : List ℕ) (right : RowsRight t places indices r
       let hi : at ≡ r.column - 1 = omega (arith, hc) in
       let s = along_split columns (joined ns) at rec a in
       let tail : rows_at t n (p + 2 + get_or t (p + 1) 0 * (get_or t p 0 + 2)) (at + get_or t p 0) ≡ rs = ap (drop 1) e in (
-        ⊎_elim (λ k. subst (λ (x : Row). row_ok x rec ≡ true) h (listed_right p at k))
+        ⊎_elim (λ k. subst (λ (x : Row). row_ok x rec ≡ true) h (listed_right t places rec p at right k))
             (λ k. subst (λ (i : ℕ). matches r.alternatives rec (part r.width i rec) ≡ true) hi (subst (λ (w : ℕ). matches r.alternatives rec (part w at rec) ≡ true) l (row_sound columns rec at r.alternatives k s.0)))
-            (either (listed p at places indices) (row_checked columns r.alternatives) (and_left first rest (and_right wide (first && rest) c))),
+            (either (listed p at places) (row_checked columns r.alternatives) (and_left first rest (and_right wide (first && rest) c))),
         covered rs ns n (p + 2 + length r.alternatives * (r.width + 2)) (at + r.width) (rw (hn, hw) at tail) (and_right first rest (and_right wide (first && rest) c))
             (subst (λ (w : ℕ). Along (joined ns) (at + w) rec) l s.1),
       )
@@ -438,11 +434,11 @@ taken_along columns rec l t =
 
 -- ---- the quick yes
 
-pub quick_right : (ns : List (List (List Pair))) (t places indices rec : List ℕ) → covers primary ns places indices 1 0 ≡ true → length (joined ns) ≡ 132
-    → t ≡ encode primary → Taken (lines (joined ns)) rec 132 → RowsRight t places indices rec (length places) → EveryRow primary rec
+pub quick_right : (ns : List (List (List Pair))) (t : List ℕ) (places : List RowPlace) (rec : List ℕ) → covers primary ns places 1 0 ≡ true → length (joined ns) ≡ 132
+    → t ≡ encode primary → Taken (lines (joined ns)) rec 132 → rows_right t places rec ≡ true → EveryRow primary rec
 unfolding decode
-quick_right ns t places indices rec c l e taken right =
-    covered t places indices rec right primary ns (get_or t 0 0) 1 0 (subst (λ (x : List ℕ). rows_at x (get_or x 0 0) 1 0 ≡ primary) (sym e) (sym tied)) c
+quick_right ns t places rec c l e taken right =
+    covered t places rec right primary ns (get_or t 0 0) 1 0 (subst (λ (x : List ℕ). rows_at x (get_or x 0 0) 1 0 ≡ primary) (sym e) (sym tied)) c
     (taken_along (joined ns) rec l taken)
 
 -- ---- what the code's loops do
@@ -466,24 +462,3 @@ module _ (q rec : List ℕ) {r : Bool} where
       by : Dec (k < c) → column_taken q rec k ≡ true
       by (yes m) = i (and_left s r h) k m
       by (no m) = let z : c ≡ k = omega (arith, m) in subst (λ (x : ℕ). column_taken q rec x ≡ true) z (sym e ∙ and_right s r h)
-
-module _ (t places indices rec : List ℕ) (i : ℕ) where
-  pub rows_all : RowsRight t places indices rec i → {n : ℕ} → n ≤ i → RowsRight t places indices rec n
-  unfolding RowsRight
-  rows_all right h k l = right k (omega arith)
-
-  pub rows_none : RowsRight t places indices rec 0
-  unfolding RowsRight
-  rows_none k l = absurd (omega arith)
-
-  pub rows_next : {w n : ℕ} {r : Bool} → RowsRight t places indices rec i → w ≡ get_or t (get_or places i 0) 0 → n ≡ get_or t (get_or places i 0 + 1) 0
-      → r ≡ matches (alternatives_at t n w (get_or places i 0 + 2)) rec (part w (get_or indices i 0) rec) → r ≡ true → RowsRight t places indices rec (i + 1)
-  unfolding RowsRight
-  rows_next {w} {n} {r} right hw hn hr h k l = by (dec_lt k i)
-    where
-      here : row_ok (row_at t (get_or places i 0) (get_or indices i 0)) rec ≡ r
-      here = let e : get_or indices i 0 + 1 - 1 ≡ get_or indices i 0 = omega arith in cc
-
-      by : Dec (k < i) → row_ok (row_at t (get_or places k 0) (get_or indices k 0)) rec ≡ true
-      by (yes m) = right k m
-      by (no m) = let z : i ≡ k = omega (arith, m) in subst (λ (x : ℕ). row_ok (row_at t (get_or places x 0) (get_or indices x 0)) rec ≡ true) z (here ∙ h)

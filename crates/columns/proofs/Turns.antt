@@ -11,6 +11,10 @@ use native.Mathlib.Nat.{sub-zero, zero-add, zero-max, mul-le-mul_left}
 use lib.Dec.{eqb, leb}
 use borrow.Author.Tests.{eqb-false, leb-false}
 use lib.ListN.{get_or, length}
+use Rattle.std.specs.Prelude.{Option, Some, None}
+use Rattle.std.specs.Option.{MatchOption}
+use Rattle.std.specs.Ordering.{ord_max, nat_cmp}
+use Rattle.std.proofs.lemmas.Bool.Decides.{nat_tests}
 use Rattle.slices.specs.Part.{part}
 use Rattle.slices.proofs.Cases.{split}
 use Rattle.slices.proofs.PartLaws.{one_less, length_part, part_next, part_done, part_whole}
@@ -18,6 +22,8 @@ use Rattle.columns.specs.ByteSets.{fits}
 use Rattle.columns.specs.Patterns.{fits_all}
 use Rattle.columns.specs.Rows.{Alternative, Row, stands, alternative_ok, matches, row_ok, first_of}
 use Rattle.columns.specs.Stops.{run, run_of, longest, stop_of}
+use Rattle.columns.specs.Found.{row_of, said}
+use Rattle.columns.specs.declared.row.Row.{Row as ReadRow}
 use Rattle.columns.specs.Table.{alternative_at, alternatives_at, row_at, rows_at, decode}
 use Rattle.columns.proofs.PatternLaws.{fits_plain}
 
@@ -80,23 +86,7 @@ unfolding part fits_all
 first_fails t rec p at zero hx hb (l, e) = absurd (omega arith)
 first_fails t rec p at (suc w) hx hb (l, e) = rw (← hx, ← hb, e)
 
--- an alternative is its pattern where its guard stands, and nothing where it does not
-module _ (t rec : List ℕ) (at p w : ℕ) {x y : ℕ} {g : Bool} (hx : x ≡ get_or t p 0) (hy : y ≡ get_or t (p + 1) 0) (hg : g ≡ stands x y rec) where
-  guard : stands (get_or t p 0) (get_or t (p + 1) 0) rec ≡ g
-  guard = cc
-
-  pub guard_stood : {r : Bool} → g ≡ true → r ≡ fits_all (part w (p + 2) t) (part w at rec) → r ≡ alternative_ok (alternative_at t w p) rec (part w at rec)
-  guard_stood e h = rw (guard, e) h
-
-  pub guard_failed : g ≡ false → false ≡ alternative_ok (alternative_at t w p) rec (part w at rec)
-  guard_failed e = rw (guard, e)
-
-  pub run_stood : {r : ℕ} → g ≡ true → r ≡ run (part w (p + 2) t) (part w at rec) → r ≡ run_of (alternative_at t w p) rec (part w at rec)
-  run_stood e h = rw (guard, e) h
-
-  pub run_failed : g ≡ false → 0 ≡ run_of (alternative_at t w p) rec (part w at rec)
-  run_failed e = rw (guard, e)
-
+-- where the pattern does not fit, the alternative does not
 pub pattern_failed : (t rec : List ℕ) (at p w : ℕ) → fits_all (part w (p + 2) t) (part w at rec) ≡ false → false ≡ alternative_ok (alternative_at t w p) rec (part w at rec)
 pattern_failed t rec at p w e = sym (rw e (and-false (stands (get_or t p 0) (get_or t (p + 1) 0) rec)))
 
@@ -104,9 +94,9 @@ pattern_failed t rec at p w e = sym (rw e (and-false (stands (get_or t p 0) (get
 pub alternatives_left : List ℕ → List ℕ → ℕ → ℕ → ℕ → ℕ → ℕ → Bool
 alternatives_left t rec at n w p j = matches (alternatives_at t (n - j) w p) rec (part w at rec)
 
-pub alternatives_start : (t rec : List ℕ) (at n w p : ℕ) → matches (alternatives_at t n w p) rec (part w at rec) ≡ alternatives_left t rec at n w p 0
+pub alternatives_start : (t rec : List ℕ) (place at : ℕ) {w n : ℕ} → w ≡ get_or t place 0 → n ≡ get_or t (place + 1) 0 → row_ok (row_at t place at) rec ≡ alternatives_left t rec at n w (place + 2) 0
 unfolding alternatives_left
-alternatives_start t rec at n w p = rw sub-zero
+alternatives_start t rec place at {w} {n} hw hn = let e : at + 1 - 1 ≡ at = omega arith in rw (sub-zero, e, hw, hn)
 
 pub alternatives_end : (t rec : List ℕ) (at n w p j : ℕ) → n ≤ j → alternatives_left t rec at n w p j ≡ false
 unfolding alternatives_left alternatives_at matches
@@ -114,23 +104,28 @@ alternatives_end t rec at n w p j h = let e : n - j ≡ 0 = omega arith in rw e
 
 module _ (t rec : List ℕ) (at n w p j : ℕ) (h : j < n) {r : Bool}
     (hr : r ≡ alternative_ok (alternative_at t w p) rec (part w at rec)) where
-  alternatives_step : alternatives_left t rec at n w p j ≡ (r || alternatives_left t rec at n w (p + 2 + w) (j + 1))
+  alternatives_step : alternatives_left t rec at n w p j ≡ (r || alternatives_left t rec at n w (p + (2 + w)) (j + 1))
   unfolding alternatives_left alternatives_at matches
-  alternatives_step = rw (one_less n j h, hr)
+  alternatives_step = let a : p + (2 + w) ≡ p + 2 + w = omega arith in rw (one_less n j h, hr, a)
 
-  pub alternatives_go : r ≡ false → alternatives_left t rec at n w p j ≡ alternatives_left t rec at n w (p + 2 + w) (j + 1)
+  pub alternatives_go : r ≡ false → alternatives_left t rec at n w p j ≡ alternatives_left t rec at n w (p + (2 + w)) (j + 1)
   alternatives_go e = alternatives_step ∙ rw e
 
   pub alternatives_found : r ≡ true → alternatives_left t rec at n w p j ≡ true
   alternatives_found e = alternatives_step ∙ rw e
 
+-- the greater of two numbers, as std has it
+pub greater : (a b : ℕ) → ord_max nat_cmp a b ≡ max a b
+greater a b = grind (arith, nat_tests)
+
 -- the furthest that one of them goes
 pub longest_left : List ℕ → List ℕ → ℕ → ℕ → ℕ → ℕ → ℕ → ℕ
 longest_left t rec at n w p j = longest (alternatives_at t (n - j) w p) rec (part w at rec)
 
-pub longest_start : (t rec : List ℕ) (at n w p : ℕ) → longest (alternatives_at t n w p) rec (part w at rec) ≡ max 0 (longest_left t rec at n w p 0)
+pub longest_start : (t rec : List ℕ) (place at : ℕ) {w n : ℕ} → w ≡ get_or t place 0 → n ≡ get_or t (place + 1) 0
+    → longest (row_at t place at).alternatives rec (part w at rec) ≡ max 0 (longest_left t rec at n w (place + 2) 0)
 unfolding longest_left
-longest_start t rec at n w p = rw (sub-zero, zero-max)
+longest_start t rec place at {w} {n} hw hn = rw (sub-zero, zero-max, hw, hn)
 
 module _ (t rec : List ℕ) (at n w p j best : ℕ) {x : ℕ} (i : x ≡ max best (longest_left t rec at n w p j)) where
   pub longest_end : n ≤ j → best ≡ x
@@ -138,18 +133,17 @@ module _ (t rec : List ℕ) (at n w p j best : ℕ) {x : ℕ} (i : x ≡ max bes
   longest_end h = let e : n - j ≡ 0 = omega arith in let z : longest_left t rec at n w p j ≡ 0 = rw e in omega arith
 
   longest_step : j < n → {r : ℕ} → r ≡ run_of (alternative_at t w p) rec (part w at rec)
-      → longest_left t rec at n w p j ≡ max r (longest_left t rec at n w (p + 2 + w) (j + 1))
+      → longest_left t rec at n w p j ≡ max r (longest_left t rec at n w (p + (2 + w)) (j + 1))
   unfolding longest_left alternatives_at longest
-  longest_step h hr = rw (one_less n j h, hr)
+  longest_step h hr = let a : p + (2 + w) ≡ p + 2 + w = omega arith in rw (one_less n j h, hr, a)
 
-  pub longest_go : j < n → {r next : ℕ} → r ≡ run_of (alternative_at t w p) rec (part w at rec) → next ≡ max best r
-      → x ≡ max next (longest_left t rec at n w (p + 2 + w) (j + 1))
-  longest_go h hr hn = omega (arith, longest_step h hr)
+  pub longest_go : j < n → {r next : ℕ} → r ≡ run_of (alternative_at t w p) rec (part w at rec) → next ≡ ord_max nat_cmp best r
+      → x ≡ max next (longest_left t rec at n w (p + (2 + w)) (j + 1))
+  longest_go h {r} hr hn = let g = greater best r in omega (arith, longest_step h hr)
 
--- what a row answers that is aimed at by the byte
-pub stop_at : (t rec : List ℕ) (p at : ℕ) {w n r : ℕ} → w ≡ get_or t p 0 → n ≡ get_or t (p + 1) 0
-    → r ≡ longest (alternatives_at t n w (p + 2)) rec (part w at rec) → at + 1 + r ≡ stop_of (row_at t p at) rec
-stop_at t rec p at hw hn hr = let e : at + 1 - 1 ≡ at = omega arith in cc
+-- the column behind the most that fit
+pub stop_at : (t rec : List ℕ) (p at : ℕ) {w r : ℕ} → w ≡ get_or t p 0 → r ≡ longest (row_at t p at).alternatives rec (part w at rec) → at + 1 + r ≡ stop_of (row_at t p at) rec
+stop_at t rec p at hw hr = let e : at + 1 - 1 ≡ at = omega arith in rw (e, hr, hw)
 
 within_suc : (t : Bool) {m n : ℕ} → m ≤ n → cond t (suc m) 0 ≤ suc n
 within_suc true h = suc-le-suc h
@@ -183,17 +177,20 @@ pub rows_end : (f : Row → List ℕ → ℕ) (t rec : List ℕ) (rows p at i : 
 unfolding rows_left rows_at first_of
 rows_end f t rec rows p at i h = let e : rows - i ≡ 0 = omega arith in rw e
 
-module _ (f : Row → List ℕ → ℕ) (t rec : List ℕ) (rows p at i : ℕ) (h : i < rows) {w n : ℕ} {r : Bool}
-    (hw : w ≡ get_or t p 0) (hn : n ≡ get_or t (p + 1) 0) (hr : r ≡ matches (alternatives_at t n w (p + 2)) rec (part w at rec)) where
-  row_ok_lem : row_ok (row_at t p at) rec ≡ r
-  row_ok_lem = let e : at + 1 - 1 ≡ at = omega arith in cc
-
-  rows_step : rows_left f t rec rows p at i ≡ cond r (rows_left f t rec rows (p + 2 + n * (w + 2)) (at + w) (i + 1)) (f (row_at t p at) rec)
+module _ (f : Row → List ℕ → ℕ) (t rec : List ℕ) (rows p at i : ℕ) (h : i < rows) {r : Bool} (hr : r ≡ row_ok (row_at t p at) rec) where
+  rows_step : rows_left f t rec rows p at i ≡ cond r (rows_left f t rec rows (p + 2 + get_or t (p + 1) 0 * (get_or t p 0 + 2)) (at + get_or t p 0) (i + 1)) (f (row_at t p at) rec)
   unfolding rows_left rows_at first_of
-  rows_step = rw (one_less rows i h, row_ok_lem, hw, hn)
+  rows_step = rw (one_less rows i h, hr)
 
-  pub rows_go : r ≡ true → rows_left f t rec rows p at i ≡ rows_left f t rec rows (p + 2 + n * (w + 2)) (at + w) (i + 1)
-  rows_go e = rows_step ∙ rw e
+  pub rows_go : r ≡ true → {w n next : ℕ} → w ≡ get_or t p 0 → n ≡ get_or t (p + 1) 0 → next ≡ p + 2 + n * (w + 2)
+      → rows_left f t rec rows p at i ≡ rows_left f t rec rows next (at + w) (i + 1)
+  rows_go e hw hn hx = rows_step ∙ rw (e, hx, hw, hn)
 
-  pub rows_bad : {x a : ℕ} → x ≡ rows_left f t rec rows p at i → r ≡ false → a ≡ f (row_at t p at) rec → a ≡ x
-  rows_bad q e h = h ∙ sym (q ∙ rows_step ∙ rw e)
+  pub rows_bad : r ≡ false → rows_left f t rec rows p at i ≡ f (row_at t p at) rec
+  rows_bad e = rows_step ∙ rw e
+
+-- what is answered of the row that was found
+pub said_of : (f : Row → List ℕ → ℕ) (found : Option ReadRow) {x : ℕ} (P : ReadRow → Type 0) → MatchOption found (x ≡ 0) P
+    → ((r : ReadRow) → P r → x ≡ f (row_of r) r.rec.now) → x ≡ said f found
+said_of f None P m h = m
+said_of f (Some r) P m h = h r m

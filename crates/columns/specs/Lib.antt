@@ -9,6 +9,7 @@ pub mod Fields
 pub mod Layout
 pub mod Kinds
 pub mod Table
+pub mod Found
 pub mod Quick
 pub mod Neighbours
 pub mod Calendar

@@ -1,9 +1,11 @@
 -- A quick yes, column by column: which byte may stand behind which. It takes most of what a layout allows and nothing else, as QuickLaws computes.
 -- Assumes nothing.
 use Rattle.std.specs.Prelude.{ℕ, ◌+◌, ◌-◌, ◌<◌, ◌≡◌, Bool, true, false, ◌&&◌, ◌||◌, List, [], ◌∷◌, ◌++◌, map, get_or}
+use Rattle.std.specs.List.{list_all}
 use Rattle.columns.specs.ByteSets.{Range, within}
 use Rattle.columns.specs.Rows.{row_ok}
 use Rattle.columns.specs.Table.{row_at}
+use Rattle.columns.specs.declared.row.RowPlace.{RowPlace}
 
 -- behind a byte of the one range a byte of the other may stand
 pub record Pair : Type 0 where
@@ -73,6 +75,6 @@ Taken q rec n = (c : ℕ) → c < n → column_taken q rec c ≡ true
 
 -- ---- the rows that the pairs do not know
 
--- the first n of these rows of a table, at these places and of fields at these indices, are right
-unfoldable pub RowsRight : List ℕ → List ℕ → List ℕ → List ℕ → ℕ → Type 0
-RowsRight t places indices rec n = (i : ℕ) → i < n → row_ok (row_at t (get_or places i 0) (get_or indices i 0)) rec ≡ true
+-- these rows of a table are right
+abbrev pub rows_right : List ℕ → List RowPlace → List ℕ → Bool
+rows_right t places rec = list_all (λ r. row_ok (row_at t r.place r.at) rec) places

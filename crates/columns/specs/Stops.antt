@@ -3,9 +3,7 @@
 -- Assumes nothing.
 use Rattle.std.specs.Prelude.{ℕ, suc, ◌+◌, ◌-◌, ◌≤◌, ◌<◌, max, ◌≡◌, true, cond, List, [], ◌∷◌, ◌++◌}
 use Rattle.columns.specs.ByteSets.{fits}
-use Rattle.columns.specs.Rows.{Alternative, Row, stands, matches, field_at, row_ok, first_of, column_of}
-use Rattle.columns.specs.declared.matcher.Aim.{Aim}
-use Rattle.columns.specs.declared.matcher.Aim.TheVariants.{Field, Byte}
+use Rattle.columns.specs.Rows.{Alternative, Row, stands, matches, field_at, row_ok, first_of}
 
 -- how many bytes from the left fit a pattern, letter for byte
 unfoldable pub run : List ℕ → List ℕ → ℕ
@@ -25,11 +23,6 @@ longest (a ∷ alts) rec f = max (run_of a rec f) (longest alts rec f)
 -- the column behind them
 abbrev pub stop_of : Row → List ℕ → ℕ
 stop_of r rec = r.column + longest r.alternatives rec (field_at r.column r.width rec)
-
--- what is answered of a row that is not right: the field, by its first column, or the byte
-abbrev pub answer_of : Aim → Row → List ℕ → ℕ
-answer_of Field = column_of
-answer_of Byte = stop_of
 
 -- that column in the leftmost row that is not right, or 0
 abbrev pub first_stop : List Row → List ℕ → ℕ

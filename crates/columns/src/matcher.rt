@@ -1,44 +1,20 @@
 // The matcher: holds a record to whatever table it is lent. A table's form is that of specs/Table.antt; a byte past its end reads as 0.
-// Assumes of its callers in this file the small bounds that each `requires` names, and of that of `rows_right` as many indices as places;
-// `first_bad_by` assumes nothing.
-ghost use Rattle.std.specs.Prelude.{◌≡◌, true, false, ◌<◌, ◌≤◌, max, get_or, length};
-ghost use Rattle.slices.specs.Part.{part};
+// Assumes of its callers in this file the small bounds that each `requires` names; `first_wrong` and `rows_right` assume nothing.
+ghost use Rattle.std.specs.Prelude.{◌≡◌, true, false, ◌<◌, ◌≤◌, get_or};
 ghost use Rattle.columns.specs.ByteSets.{fits};
 ghost use Rattle.columns.specs.Patterns.{fits_all};
-ghost use Rattle.columns.specs.Rows.{stands, alternative_ok, matches, first_of};
-ghost use Rattle.columns.specs.Stops.{run, run_of, longest, answer_of};
-ghost use Rattle.columns.specs.Table.{alternative_at, alternatives_at, row_at, decode};
-ghost use Rattle.columns.specs.Quick.{RowsRight};
+ghost use Rattle.columns.specs.Rows.{stands, alternative_ok, row_ok};
+ghost use Rattle.columns.specs.Stops.{run, run_of, longest, stop_of};
+ghost use Rattle.columns.specs.Table.{decode};
+ghost use Rattle.columns.specs.Found.{row_of, alternative_of, letters_of, field_of, FirstWrong};
+ghost use Rattle.columns.specs.Quick.{rows_right};
 
 use crate::byte_sets::in_set;
+use crate::row::{Row, RowPlace};
 use slices::{byte_after, byte_at};
 
-// How many of the record's bytes from index `at` on fit the letters of the pattern at p, of which there are w.
-fn run_of_pattern(t: &[u8], rec: &[u8], at: usize, p: usize, w: usize) -> usize
-    ensures { result ≡ run (part w p t.now) (part w at rec.now) }
-{
-    let mut k = 0;
-    while k < w {
-        if in_set(byte_after(t, p, k), byte_after(rec, at, k)) {
-            k += 1;
-        } else {
-            return k;
-        }
-    }
-    k
-}
-
-// Whether all w letters of the pattern at p fit the record's bytes from index `at` on. Many fields have one column only.
-fn fits_pattern(t: &[u8], rec: &[u8], at: usize, p: usize, w: usize) -> bool
-    ensures { result ≡ fits_all (part w p t.now) (part w at rec.now) }
-{
-    if w == 1 {
-        return in_set(byte_at(t, p), byte_at(rec, at));
-    }
-    run_of_pattern(t, rec, at, p, w) == w
-}
-
 // Whether the record's column holds a byte that fits the letter c. Column 0 stands for no column, and holds whatever is asked.
+#[tactic(auto, unfolding(crate::specs::Rows::stands))]
 fn guard_stands(rec: &[u8], column: u8, c: u8) -> bool
     ensures { result ≡ stands column c rec.now }
 {
@@ -49,148 +25,128 @@ fn guard_stands(rec: &[u8], column: u8, c: u8) -> bool
 }
 
 // Whether a pattern of w letters that begins with c may fit a field that begins with b: a letter that stands for itself has to be that byte.
+#[tactic(auto, using(crate::proofs::Turns::plain_first))]
 fn may_fit(c: u8, b: u8, w: usize) -> bool
     ensures { result ≡ false → (1 ≤ w) × (fits c b ≡ false) }
 {
     (w == 0) | ((b'a' <= c) | (b == c))
 }
 
-// Whether the alternative at p stands and fits the record's w bytes from index `at` on, of which the first is b. Most that do not fit fail at
-// their first letter, so that is looked at before all else.
-fn fits_alternative(t: &[u8], rec: &[u8], at: usize, b: u8, p: usize, w: usize) -> bool
-    requires { (p < 33554432) × (b ≡ get_or rec.now at 0) }
-    ensures { result ≡ alternative_ok (alternative_at t.now w p) rec.now (part w at rec.now) }
-{
-    if !may_fit(byte_at(t, p + 2), b, w) {
-        return false;
+impl<'a> Row<'a> {
+    // How many of the field's bytes fit the letters of the pattern at p.
+    #[tactic(auto, using(crate::proofs::Turns::run_start, crate::proofs::Turns::run_go, crate::proofs::Turns::run_stop, crate::proofs::Turns::run_end))]
+    fn run_of_pattern(&self, p: usize) -> usize
+        ensures { result ≡ run (letters_of self.now p) (field_of self.now) }
+    {
+        for k in 0..self.width {
+            if !in_set(
+                byte_after(self.table, p, k),
+                byte_after(self.rec, self.at, k),
+            ) {
+                return k;
+            }
+        }
+        self.width
     }
-    if guard_stands(rec, byte_at(t, p), byte_at(t, p + 1)) {
-        fits_pattern(t, rec, at, p + 2, w)
-    } else {
+
+    // Whether all letters of the pattern at p fit the field's bytes. Many fields have one column only.
+    #[tactic(auto, using(crate::proofs::Turns::fits_one, crate::proofs::Turns::run_all))]
+    fn fits_pattern(&self, p: usize) -> bool
+        ensures { result ≡ fits_all (letters_of self.now p) (field_of self.now) }
+    {
+        if self.width == 1 {
+            return in_set(byte_at(self.table, p), byte_at(self.rec, self.at));
+        }
+        self.run_of_pattern(p) == self.width
+    }
+
+    // Whether the alternative at p stands and fits the field, of which the first byte is b. Most that do not fit fail at their first letter, so that
+    // is looked at before all else.
+    #[tactic(auto, using(crate::proofs::Turns::first_fails, crate::proofs::Turns::pattern_failed))]
+    fn fits_alternative(&self, b: u8, p: usize) -> bool
+        requires { (p < 33554432) × (b ≡ get_or self.now.rec.now self.now.at 0) }
+        ensures { result ≡ alternative_ok (alternative_of self.now p) self.now.rec.now (field_of self.now) }
+    {
+        if !may_fit(byte_at(self.table, p + 2), b, self.width) {
+            return false;
+        }
+        guard_stands(self.rec, byte_at(self.table, p), byte_at(self.table, p + 1))
+            && self.fits_pattern(p + 2)
+    }
+
+    // Whether one of its alternatives stands and fits the field.
+    #[tactic(auto, using(crate::proofs::Turns::alternatives_start, crate::proofs::Turns::alternatives_go, crate::proofs::Turns::alternatives_found, crate::proofs::Turns::alternatives_end))]
+    pub(crate) fn fits(&self) -> bool
+        ensures { result ≡ row_ok (row_of self.now) self.now.rec.now }
+    {
+        let b = byte_at(self.rec, self.at);
+        let mut p = self.place + 2;
+        for _ in 0..self.count {
+            if self.fits_alternative(b, p) {
+                return true;
+            }
+            p += 2 + self.width;
+        }
         false
     }
-}
 
-// Whether one of the n alternatives from `first` on stands and fits the record's w bytes from index `at` on.
-fn fits_row(t: &[u8], rec: &[u8], at: usize, w: usize, first: usize, n: usize) -> bool
-    requires { (w < 256) × (first < 16900000) × (n < 256) }
-    ensures { result ≡ matches (alternatives_at t.now n w first) rec.now (part w at rec.now) }
-{
-    let b = byte_at(rec, at);
-    let mut p = first;
-    let mut j = 0;
-    while j < n {
-        if fits_alternative(t, rec, at, b, p, w) {
-            return true;
-        }
-        p = p + 2 + w;
-        j += 1;
-    }
-    false
-}
-
-// The same of the alternative at p; none where it does not stand.
-fn run_of_alternative(t: &[u8], rec: &[u8], at: usize, p: usize, w: usize) -> usize
-    requires { p < 33554432 }
-    ensures { result ≡ run_of (alternative_at t.now w p) rec.now (part w at rec.now) }
-{
-    if guard_stands(rec, byte_at(t, p), byte_at(t, p + 1)) {
-        run_of_pattern(t, rec, at, p + 2, w)
-    } else {
-        0
-    }
-}
-
-fn larger(a: usize, b: usize) -> usize
-    ensures { result ≡ max a b }
-{
-    if a < b { b } else { a }
-}
-
-// The most bytes that one of the n alternatives from `first` on takes, of the record's w bytes from index `at` on.
-fn longest_run(t: &[u8], rec: &[u8], at: usize, w: usize, first: usize, n: usize) -> usize
-    requires { (w < 256) × (first < 16900000) × (n < 256) }
-    ensures { result ≡ longest (alternatives_at t.now n w first) rec.now (part w at rec.now) }
-{
-    let mut best = 0;
-    let mut p = first;
-    let mut j = 0;
-    while j < n {
-        best = larger(best, run_of_alternative(t, rec, at, p, w));
-        p = p + 2 + w;
-        j += 1;
-    }
-    best
-}
-
-// What an answer aims at in a row that the record does not fit: the field, by its first column, or the first byte up to which the field
-// begins nothing that the row allows.
-#[derive(Clone, Copy)]
-pub(crate) enum Aim {
-    Field,
-    Byte,
-}
-
-// The answer of the row at p, whose field begins at index `at` of the record.
-fn answer_of(t: &[u8], rec: &[u8], at: usize, p: usize, aim: Aim) -> usize
-    requires { (at < 65536) × (p < 16899998) }
-    ensures { result ≡ answer_of aim (row_at t.now p at) rec.now }
-{
-    match aim {
-        Aim::Field => at + 1,
-        Aim::Byte => {
-            let w = byte_at(t, p) as usize;
-            let n = byte_at(t, p + 1) as usize;
-            at + 1 + longest_run(t, rec, at, w, p + 2, n)
-        }
-    }
-}
-
-// The answer of the leftmost row of the table that the record does not fit, or 0.
-pub(crate) fn first_bad_by(t: &[u8], rec: &[u8], aim: Aim) -> usize
-    ensures { result ≡ first_of (answer_of aim) (decode t.now) rec.now }
-{
-    let rows = byte_at(t, 0) as usize;
-    let mut p = 1;
-    let mut at = 0;
-    let mut i = 0;
-    while i < rows {
-        let w = byte_at(t, p) as usize;
-        let n = byte_at(t, p + 1) as usize;
-        if fits_row(t, rec, at, w, p + 2, n) {
-            p = p + 2 + n * (w + 2);
-            at += w;
-            i += 1;
+    // How many of the field's bytes fit the alternative at p; none where it does not stand.
+    fn run_of_alternative(&self, p: usize) -> usize
+        requires { p < 33554432 }
+        ensures { result ≡ run_of (alternative_of self.now p) self.now.rec.now (field_of self.now) }
+    {
+        if guard_stands(self.rec, byte_at(self.table, p), byte_at(self.table, p + 1)) {
+            self.run_of_pattern(p + 2)
         } else {
-            return answer_of(t, rec, at, p, aim);
+            0
         }
     }
-    0
+
+    // The most of the field's bytes that one of its alternatives takes.
+    #[tactic(auto, using(crate::proofs::Turns::longest_start, crate::proofs::Turns::longest_go, crate::proofs::Turns::longest_end))]
+    fn longest_run(&self) -> usize
+        ensures { result ≡ longest (row_of self.now).alternatives self.now.rec.now (field_of self.now) }
+    {
+        let mut best = 0;
+        let mut p = self.place + 2;
+        for _ in 0..self.count {
+            best = best.max(self.run_of_alternative(p));
+            p += 2 + self.width;
+        }
+        best
+    }
+
+    // The first column up to which the field begins nothing that the row allows.
+    #[tactic(auto, using(crate::proofs::Turns::stop_at, crate::proofs::Turns::longest_fits))]
+    pub(crate) fn stop(&self) -> usize
+        ensures { result ≡ stop_of (row_of self.now) self.now.rec.now }
+    {
+        self.at + 1 + self.longest_run()
+    }
 }
 
-// Whether the rows of the table at these places, of fields at these indices, are all right.
-pub(crate) fn rows_right<'a>(
-    t: &'a [u8],
-    places: &'a [usize],
-    indices: &'a [usize],
-    rec: &'a [u8],
-) -> bool
-    requires { length indices.now ≡ length places.now }
-    ensures { result ≡ true → RowsRight t.now places.now indices.now rec.now (length places.now) }
+// The leftmost row of the table that the record does not fit.
+#[tactic(auto, using(crate::proofs::Turns::rows_start, crate::proofs::Turns::rows_go, crate::proofs::Turns::rows_bad, crate::proofs::Turns::rows_end, crate::proofs::Turns::small))]
+pub(crate) fn first_wrong<'a>(table: &'a [u8], rec: &'a [u8]) -> Option<Row<'a>>
+    ensures { FirstWrong (decode table.now) rec.now result }
 {
-    let mut i = 0;
-    while i < places.len() {
-        let p = places[i];
-        let at = indices[i];
-        if p >= 16899998 {
-            return false;
+    let mut place = 1;
+    let mut at = 0;
+    let rows = byte_at(table, 0);
+    for _ in 0..rows {
+        let row = Row::read(table, place, rec, at);
+        if !row.fits() {
+            return Some(row);
         }
-        let w = byte_at(t, p) as usize;
-        let n = byte_at(t, p + 1) as usize;
-        if !fits_row(t, rec, at, w, p + 2, n) {
-            return false;
-        }
-        i += 1;
+        place = row.end();
+        at += row.width;
     }
-    true
+    None
+}
+
+// Whether the rows of the table at these places are all right.
+pub(crate) fn rows_right<'a>(table: &'a [u8], places: &'a [RowPlace], rec: &'a [u8]) -> bool
+    ensures { result ≡ rows_right table.now places.now rec.now }
+{
+    places.iter().all(|row| Row::read(table, row.place as usize, rec, row.at as usize).fits())
 }

@@ -3,15 +3,19 @@
 -- Assumes nothing.
 use mathlib.Core.Path.{◌≡◌, refl, sym, ap, ap₂, ◌∙◌}
 use mathlib.Core.Logic.{◌↔◌, ⊎_elim}
-use mathlib.Core.Bool.{Bool, true, false, ◌||◌, false≢true, or_assoc}
+use mathlib.Core.Bool.{Bool, true, false, ◌&&◌, ◌||◌, false≢true, or_assoc, or-false, or-true, and-false}
 use mathlib.Core.List.{List, [], ◌∷◌, ◌++◌, Memᴰ}
 use Prim.Native.Nat.{ℕ, zero, suc, ◌+◌, ◌-◌, ◌≤◌, ◌<◌}
 use native.Mathlib.Omega.{arith}
 use native.Mathlib.Nat.{sub-zero, add-zero, le_of_suc-le-suc, not-suc-le-zero}
-use lib.ListN.{length, get_or, take, drop, replicate, get_or-append}
+use lib.ListN.{length, get_or, take, drop, replicate, get_or-append, get_or-eq_default, drop_of_length-le, length-drop}
+use native.Mathlib.Decide.{dec_lt}
 use lib.Seq.{drop-cons, take_all, get_or-append-add}
-use lib.Dec.{eqb}
-use borrow.Author.Tests.{eqb-true, eq-eqb, ne_eqb}
+use lib.Dec.{eqb, ltb, eqb-suc-zero}
+use borrow.Author.Tests.{eqb-true, eq-eqb, ne_eqb, lt-ltb}
+use Rattle.std.specs.Prelude.{Option, None, Some, MatchOption, slice_range}
+use Rattle.std.specs.Slice.{IsGetRangeResult}
+use denote.Ref.{Bor}
 use Rattle.slices.specs.Part.{part, blank, member}
 use Rattle.slices.proofs.Cases.{and_left, and_right, either, or_left, or_right}
 
@@ -101,6 +105,19 @@ part_take zero i xs h = refl
 part_take (suc n) i xs h =
     rw (drop-cons xs i 0 (omega arith)) (ap (λ (t : List ℕ). get_or xs i 0 ∷ t) (part_take n (suc i) xs (omega arith)))
 
+-- a cut of what is left of a list is a run, where it is there
+pub cut_is : (n i : ℕ) (xs ys : List ℕ) (r : Option (Bor (List ℕ))) → (i ≤ length xs) × (length xs ≤ length xs) × (ys ≡ slice_range xs i (length xs)) × (length ys + i ≡ length xs)
+    → IsGetRangeResult ys 0 n r → MatchOption r (length xs < i + n) (λ t. (i + n ≤ length xs) × (t.now ≡ part n i xs))
+cut_is n i xs ys None h g = by (dec_lt (length xs) (i + n))
+  where
+    by : Dec (length xs < i + n) → length xs < i + n
+    by (yes k) = k
+    by (no k) = absurd (false≢true (g.1 (omega arith, omega arith)))
+cut_is n i xs ys (Some t) h g =
+    let l : i + n ≤ length xs = omega arith in
+    let rest : ys ≡ drop i xs = h.2 ∙ take_all (length xs - i) (drop i xs) (omega (arith, length-drop i xs)) in
+    (l, g.0.2 ∙ rw (sub-zero, rest) (sym (part_take n i xs l)))
+
 -- a whole list is the run of its length
 pub part_all : (xs : List ℕ) → part (length xs) 0 xs ≡ xs
 part_all xs = part_take (length xs) 0 xs (omega arith) ∙ take_all (length xs) xs (omega arith)
@@ -119,6 +136,23 @@ module _ (n i : ℕ) (xs : List ℕ) (k : ℕ) where
 
 pub part_whole : (n i : ℕ) (xs : List ℕ) → part (n - 0) (i + 0) xs ≡ part n i xs
 part_whole n i xs = rw (sub-zero, add-zero)
+
+-- a run that begins past the end, and one that ends past it
+part_none : (n i : ℕ) (xs : List ℕ) → length xs ≤ i → part n i xs ≡ replicate n 0
+unfolding part
+part_none zero i xs h = refl
+part_none (suc n) i xs h = rw (get_or-eq_default xs 0 {n = i} h) (ap (λ (t : List ℕ). 0 ∷ t) (part_none n (suc i) xs (omega arith)))
+
+pub part_past : (n i : ℕ) (xs : List ℕ) → length xs < i + n → part n i xs ≡ drop i xs ++ replicate (n - (length xs - i)) 0
+part_past n i xs h = by (dec_lt i (length xs))
+  where
+    by : Dec (i < length xs) → part n i xs ≡ drop i xs ++ replicate (n - (length xs - i)) 0
+    by (no k) = let le : length xs ≤ i = omega arith in let e : n - (length xs - i) ≡ n = omega arith in rw (drop_of_length-le xs le, e) (part_none n i xs (omega arith))
+    by (yes k) =
+        let e : n ≡ (length xs - i) + (n - (length xs - i)) = omega arith in
+        let f : i + (length xs - i) ≡ length xs = omega arith in
+        ap (λ (t : ℕ). part t i xs) e ∙ part_append (length xs - i) (n - (length xs - i)) i xs
+        ∙ rw (part_take (length xs - i) i xs (omega arith), take_all (length xs - i) (drop i xs) (omega (arith, length-drop i xs)), f, part_none (n - (length xs - i)) (length xs) xs (omega arith))
 
 -- blank is: nothing but blanks
 pub blank_means : (xs : List ℕ) → blank xs ≡ true → xs ≡ replicate (length xs) 32
@@ -163,6 +197,21 @@ unfolding member
 member_replicate b x zero h = refl
 member_replicate b x (suc n) h = rw (ne_eqb x b h) (member_replicate b x n h)
 
+-- a run that ends past the end has 0 there, if it has any byte, and no other byte than what is left of the list
+member_zeros : (m : ℕ) → 0 < m → member 0 (replicate m 0) ≡ true
+unfolding member
+member_zeros zero l = absurd (not-suc-le-zero l)
+member_zeros (suc m) l = refl
+
+pub member_zero : (n i : ℕ) (xs : List ℕ) → length xs < i + n → ltb 0 n ≡ member 0 (part n i xs)
+unfolding part member
+member_zero zero i xs h = refl
+member_zero (suc n) i xs h = lt-ltb 0 (suc n) (omega arith) ∙ sym (ap (member 0) (part_past (suc n) i xs h) ∙ member_append 0 (drop i xs) _ ∙ ap (λ (t : Bool). member 0 (drop i xs) || t) (member_zeros (suc n - (length xs - i)) (omega arith)) ∙ or-true (member 0 (drop i xs)))
+
+pub member_past : (b n i : ℕ) (xs : List ℕ) → (b ≡ 0 → ⊥) → length xs < i + n → member b (drop i xs) ≡ member b (part n i xs)
+member_past b n i xs h l =
+    sym (rw (part_past n i xs l) (member_append b (drop i xs) _ ∙ rw (member_replicate b 0 (n - (length xs - i)) (λ e. h (sym e))) (or-false (member b (drop i xs)))))
+
 -- among zeros, and past them, there is 0
 pub zero_at : (n i : ℕ) → ◌≡◌ {A = ℕ} (get_or (replicate n 0) i 0) 0
 zero_at zero i = refl
@@ -173,3 +222,14 @@ zero_at (suc n) (suc i) = zero_at n i
 pub no_bytes : (xs : List ℕ) → length xs ≡ 0 → xs ≡ []
 no_bytes [] e = refl
 no_bytes (x ∷ xs) e = absurd (omega arith)
+
+-- a run that ends past the end has a byte that is none
+none_past : (s : List ℕ) (i n : ℕ) → length s < i + suc n → blank (part (suc n) i s) ≡ false
+unfolding part blank
+none_past s i zero h = rw (get_or-eq_default s 0 {n = i} (omega arith))
+none_past s i (suc n) h = ap (λ (t : Bool). eqb (get_or s i 0) 32 && t) (none_past s (suc i) n (omega arith)) ∙ and-false (eqb (get_or s i 0) 32)
+
+pub blank_past : (n i : ℕ) (s : List ℕ) → length s < i + n → eqb n 0 ≡ blank (part n i s)
+unfolding part blank
+blank_past zero i s h = refl
+blank_past (suc n) i s h = eqb-suc-zero n ∙ sym (none_past s i n h)

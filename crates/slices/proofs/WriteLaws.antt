@@ -1,14 +1,15 @@
 -- Laws of lists that are written over: one byte more of a run, one byte more made 0, and one run stored behind another.
 -- Assumes nothing.
-use mathlib.Core.Path.{◌≡◌, ap, ◌∙◌}
-use mathlib.Core.List.{List, [], ◌∷◌, ◌++◌, append-nil}
+use mathlib.Core.Path.{◌≡◌, sym, ap, ◌∙◌}
+use mathlib.Core.List.{List, [], ◌∷◌, ◌++◌, append-nil, append_assoc}
 use Prim.Native.Nat.{ℕ, zero, suc, ◌+◌, ◌-◌, ◌≤◌, ◌<◌}
 use native.Mathlib.Omega.{arith}
 use native.Mathlib.Numerals.{add-one}
 use lib.ListN.{length, get_or, set, take, drop, replicate, length-set, length-replicate}
 use lib.Seq.{sets, sets-eq, take-suc-set, take_all, append_snoc}
+use borrow.Rule.Slice.PartMut.{put_mid, Post-is}
 use Rattle.slices.specs.Part.{part}
-use Rattle.slices.proofs.PartLaws.{part_next, part_done, part_whole}
+use Rattle.slices.proofs.PartLaws.{length_part, part_next, part_done, part_whole}
 
 -- what is still to be copied after k bytes
 module _ (from : List ℕ) (i at n : ℕ) (out : List ℕ) (k : ℕ) where
@@ -28,19 +29,11 @@ module _ (from : List ℕ) (i at n : ℕ) (out : List ℕ) (k : ℕ) where
   unfolding copied
   copied_next h hb e = let f : at + (k + 1) ≡ suc (at + k) = omega arith in rw (part_next n i from k h, f, e, hb)
 
--- the list with zeros from i on
-unfoldable pub cleared : List ℕ → ℕ → List ℕ
-cleared out i = take i out ++ replicate (length out - i) 0
-
-pub cleared_next : (out : List ℕ) (i : ℕ) → i < length out → cleared (set out i 0) (i + 1) ≡ cleared out i
-unfolding cleared
-cleared_next out i h =
-    rw (add-one, take-suc-set out i 0 h, length-set)
-    (append_snoc (take i out) 0 (replicate (length out - suc i) 0) ∙ let e : length out - i ≡ suc (length out - suc i) = omega arith in rw e)
-
-pub cleared_end : (out : List ℕ) (i : ℕ) → length out ≤ i → cleared out i ≡ out
-unfolding cleared
-cleared_end out i h = let e : length out - i ≡ 0 = omega arith in rw (e, take_all i out h, append-nil)
+-- a run put into places that are there
+pub put_run : (from : List ℕ) (i at n : ℕ) (out ys : List ℕ) → at + n ≤ length out → ys ≡ part n i from → put_mid at (at + n - at) out ys ≡ sets out at (part n i from)
+put_run from i at n out ys h e =
+    let l : at + length (part n i from) ≡ at + n = ap (λ (k : ℕ). at + k) (length_part n i from) in
+    sym (sets-eq (part n i from) out at (omega arith) ∙ rw (l, Post-is at (at + n) out (omega arith), e) (append_assoc (take at out) (part n i from) (drop (at + n) out)))
 
 -- ---- stored one behind the other
 

@@ -1,9 +1,8 @@
--- The test says that both runs lie within. Assumes nothing.
-use Rattle.slices.proofs.Turns.{both_lie}
+-- The order of slices is that of their bytes. Assumes nothing.
+use Rattle.std.proofs.Common.{ap₂, ◌∙◌}
+use Rattle.slices.specs.Order.{order}
+use Rattle.slices.proofs.StdLaws.{order_std}
 use Rattle.slices.proofs.compare.Goals as goal
 
-pub compare_bytes-requires : goal.compare_bytes-requires
-compare_bytes-requires c = both_lie _ _ _ _ _ c.lies.ensures c.lies-2.ensures c.if-lies.true
-
-pub compare_words-requires : goal.compare_words-requires
-compare_words-requires c = both_lie _ _ _ _ _ c.lies.ensures c.lies-2.ensures c.if-lies.true
+pub returns-in-Some-Some : goal.returns-in-Some-Some
+returns-in-Some-Some c = c.cmp.ensures ∙ order_std c.in-Some-Some.x.now c.in-Some-Some.y.now ∙ ap₂ order c.in-Some-Some.ensures.1 c.in-Some-Some.ensures'.1

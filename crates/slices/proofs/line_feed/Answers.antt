@@ -1,17 +1,15 @@
--- By the invariant: what is left to search gives the answer. Assumes nothing.
-use Rattle.slices.specs.Search.{is_line_feed}
-use borrow.Author.Tests.{eq-eqb, ne_eqb}
-use Rattle.slices.proofs.SearchLaws.{starts, finds, goes_on, ends}
+-- The search is the specification's. Assumes nothing.
+use Rattle.std.proofs.Common.{◌≡◌, rules, ap, ◌∙◌, ◌+◌, ℕ}
+use Rattle.std.proofs.lemmas.Iterator.{YieldsList-from_slice}
+use Rattle.std.proofs.lemmas.Iterator.Search.{position_from_yields_List}
+use Rattle.std.specs.List.{position}
+use borrow.Author.Tests.{tests}
+use Rattle.slices.specs.Search.{is_line_feed, first_at}
+use Rattle.slices.proofs.StdLaws.{first_std}
 use Rattle.slices.proofs.line_feed.Goals as goal
 
-pub loop-i-init : goal.loop-i-init
-loop-i-init c = starts is_line_feed 0 _ _
-
-pub returns-then-s-i-eq10 : goal.returns-then-s-i-eq10
-returns-then-s-i-eq10 c = finds is_line_feed 0 _ _ _ c.loop-i.invariant c.loop-i-test.true (eq-eqb _ _ c.if-s-i-eq10.true)
-
-pub loop-i-preserved : goal.loop-i-preserved
-loop-i-preserved c = goes_on is_line_feed 0 _ _ _ c.loop-i.invariant c.loop-i-test.true (ne_eqb _ _ c.if-s-i-eq10.false)
-
 pub returns : goal.returns
-returns c = ends is_line_feed 0 _ _ _ c.loop-i.invariant c.loop-i-test.false
+returns c =
+    let e : c.position.result ≡ position is_line_feed c.rest-rest.result.now =
+      position_from_yields_List is_line_feed _ _ c.position.result c.position.ensures.ran (YieldsList-from_slice c.rest-rest.result.now cc) (λ x b q k. search (rules, tests)) in
+    ap (λ (n : ℕ). c.args.from + n) (c.unwrap_or.ensures ∙ first_std is_line_feed _ _ e ∙ ap (first_at is_line_feed) c.rest-rest.ensures)

@@ -7,6 +7,3 @@ use Rattle.columns.proofs.quick.columns_taken.Given as goal
 
 abbrev pub invariant-loop-c : goal.invariant-loop-c
 invariant-loop-c l = (1 ≤ l.c) × (l.c ≤ 132) × (l.taken ≡ true → Taken l.q l.rec l.c)
-
-abbrev pub decreases-loop-c : goal.decreases-loop-c
-decreases-loop-c l = 132 - l.c
