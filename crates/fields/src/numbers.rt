@@ -1,5 +1,5 @@
 // Numbers in decimal digits, read from a field's columns and put there between marks. Assumes of its callers, all in this crate, that
-// columns count from 1 to 132, a number has at most six digits, and a mark at most two letters.
+// columns count to 132, a number has at most six digits, and a mark at most two letters.
 ghost use Rattle.std.specs.Prelude.{◌≡◌, [], ◌+◌, ◌-◌, ◌^◌, ◌≤◌, ◌<◌, length};
 ghost use Rattle.std.proofs.lemmas.List.Edits.{sets};
 ghost use Rattle.slices.specs.Part.{part};
@@ -8,6 +8,7 @@ ghost use Rattle.columns.specs.Fields.{bytes_in};
 ghost use Rattle.fields.specs.Pieces.{fill};
 ghost use Rattle.fields.specs.Numbers.{digits_of, marked_digits};
 
+use crate::text::start;
 use columns::field::Field;
 use digits::number;
 use slices::{copy, put_after};
@@ -34,10 +35,10 @@ pub(crate) fn put_marked(
     after: &[u8],
     n: u32,
 )
-    requires { (1 ≤ field.0) × (field.0 ≤ 132) × (length before.now ≤ 2) × (width ≤ 6) }
+    requires { (field.0 ≤ 132) × (length before.now ≤ 2) × (width ≤ 6) }
     ensures { out.new ≡ fill field (marked_digits before.now width after.now n) out.old }
 {
-    let at = field.0 - 1;
+    let at = start(field);
     if n < 10u32.pow(width as u32) {
         let from = at + before.len();
         copy(before, 0, out, at, before.len());
@@ -50,7 +51,7 @@ pub(crate) fn put_marked(
 
 // Puts a number of as many digits as the field has columns.
 pub(crate) fn put_number(out: &mut [u8], field: Field, n: u32)
-    requires { (1 ≤ field.0) × (field.0 ≤ 132) × (field.1 ≤ 6) }
+    requires { (field.0 ≤ 132) × (field.1 ≤ 6) }
     ensures { out.new ≡ fill field (marked_digits [] field.1 [] n) out.old }
 {
     put_marked(out, field, b"", field.1, b"", n);
@@ -58,16 +59,16 @@ pub(crate) fn put_number(out: &mut [u8], field: Field, n: u32)
 
 // The number that a field's columns say.
 pub(crate) fn number_in(rec: &[u8], field: Field) -> u32
-    requires { (1 ≤ field.0) × (field.1 ≤ 6) }
+    requires { field.1 ≤ 6 }
     ensures { result ≡ value (bytes_in field rec.now) }
 {
-    number(rec, field.0 - 1, field.1)
+    number(rec, start(field), field.1)
 }
 
 // The number that `width` of a field's columns say, past its first k.
 pub(crate) fn number_within(rec: &[u8], field: Field, k: usize, width: usize) -> u32
-    requires { (1 ≤ field.0) × (field.0 ≤ 132) × (k ≤ 6) × (width ≤ 6) }
+    requires { (field.0 ≤ 132) × (k ≤ 6) × (width ≤ 6) }
     ensures { result ≡ value (part width (field.0 - 1 + k) rec.now) }
 {
-    number(rec, field.0 - 1 + k, width)
+    number(rec, start(field) + k, width)
 }

@@ -45,7 +45,7 @@ pub enum Altitude {
 // The quantity in a field of plain digits.
 #[tactic(auto, unfolding(crate::specs::Optional::unless_blank))]
 pub(crate) fn quantity_in<U: Unit>(rec: &[u8], field: Field) -> Option<U>
-    requires { (1 ≤ field.0) × (field.1 ≤ 6) }
+    requires { field.1 ≤ 6 }
     ensures { result ≡ quantity_of U.of (bytes_in field rec.now) }
 {
     if blank_in(rec, field) {
@@ -103,7 +103,7 @@ impl Distance {
 impl Altitude {
     // The altitude in one of two fields.
     pub(crate) fn of(rec: &[u8], field: Field) -> Option<Altitude>
-        requires { (1 ≤ field.0) × (field.0 ≤ 132) × (field.1 ≡ 5) }
+        requires { (field.0 ≤ 132) × (field.1 ≡ 5) }
         ensures { result ≡ altitude_of (bytes_in field rec.now) }
     {
         if blank_in(rec, field) {

@@ -3,4 +3,4 @@ use Rattle.fields.proofs.ReadLaws.{six_digits}
 use Rattle.fields.proofs.numbers.number_in.Goals as goal
 
 pub returns : goal.returns
-returns c = six_digits _ _ _ c.requires.1 c.number.ensures
+returns c = rw (← c.start.ensures) (six_digits _ _ _ c.requires c.number.ensures)

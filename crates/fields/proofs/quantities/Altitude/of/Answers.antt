@@ -10,13 +10,13 @@ unfolding unless_blank
 returns-then-blank_in c = simp (sym c.blank_in.ensures ∙ c.if-blank_in.true)
 
 pub returns-in-70 : goal.returns-in-70
-returns-in-70 c = altitude_level _ _ _ c.requires.2 (sym c.blank_in.ensures ∙ c.if-blank_in.false)
+returns-in-70 c = altitude_level _ _ _ c.requires.1 (sym c.blank_in.ensures ∙ c.if-blank_in.false)
     c.byte_in.ensures c.in-70.is c.number_within.ensures
 
 pub returns-in-45 : goal.returns-in-45
-returns-in-45 c = altitude_below _ _ _ c.requires.2 (sym c.blank_in.ensures ∙ c.if-blank_in.false)
+returns-in-45 c = altitude_below _ _ _ c.requires.1 (sym c.blank_in.ensures ∙ c.if-blank_in.false)
     c.byte_in.ensures c.in-45.is c.number_within-in-45.ensures
 
 pub returns-in_default : goal.returns-in_default
-returns-in_default c = altitude_feet _ _ _ c.requires.2 (sym c.blank_in.ensures ∙ c.if-blank_in.false)
+returns-in_default c = altitude_feet _ _ _ c.requires.1 (sym c.blank_in.ensures ∙ c.if-blank_in.false)
     c.byte_in.ensures (search rules) (search rules) c.number_in.ensures
