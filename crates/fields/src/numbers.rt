@@ -27,6 +27,7 @@ fn put_digits(out: &mut [u8], at: usize, width: usize, n: u32)
 }
 
 // Puts a number of `width` digits between its marks; one of more digits leaves a byte 0, which is legal nowhere.
+#[tactic(auto, using(crate::proofs::PutLaws::put_fits, crate::proofs::PutLaws::put_unfit))]
 pub(crate) fn put_marked(
     out: &mut [u8],
     field: Field,
@@ -58,6 +59,7 @@ pub(crate) fn put_number(out: &mut [u8], field: Field, n: u32)
 }
 
 // The number that a field's columns say.
+#[tactic(auto, using(crate::proofs::ReadLaws::six_digits))]
 pub(crate) fn number_in(rec: &[u8], field: Field) -> u32
     requires { field.1 ≤ 6 }
     ensures { result ≡ value (bytes_in field rec.now) }
@@ -66,6 +68,7 @@ pub(crate) fn number_in(rec: &[u8], field: Field) -> u32
 }
 
 // The number that `width` of a field's columns say, past its first k.
+#[tactic(auto, using(crate::proofs::ReadLaws::six_digits))]
 pub(crate) fn number_within(rec: &[u8], field: Field, k: usize, width: usize) -> u32
     requires { (field.0 ≤ 132) × (k ≤ 6) × (width ≤ 6) }
     ensures { result ≡ value (part width (field.0 - 1 + k) rec.now) }

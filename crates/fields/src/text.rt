@@ -48,6 +48,7 @@ pub(crate) fn blank_in(rec: &[u8], field: Field) -> bool
 }
 
 // A byte of a field, and a blank past it.
+#[tactic(auto, using(crate::proofs::ReadLaws::with_blanks_within, crate::proofs::ReadLaws::with_blanks_past))]
 fn byte_or_blank(rec: &[u8], field: Field, k: usize) -> u8
     ensures { result ≡ get_or (bytes_in field rec.now) k 32 }
 {
@@ -59,6 +60,7 @@ fn byte_or_blank(rec: &[u8], field: Field, k: usize) -> u8
 }
 
 // Puts a byte.
+#[tactic(auto, unfolding(crate::specs::Pieces::put))]
 pub(crate) fn put_byte(out: &mut [u8], field: Field, b: u8)
     ensures { out.new ≡ fill field (b ∷ []) out.old }
 {
@@ -77,6 +79,7 @@ pub(crate) fn put_if(out: &mut [u8], field: Field, right: bool, b: u8)
 }
 
 // The text in a field.
+#[tactic(auto, unfolding(crate::specs::Text::text_of))]
 pub(crate) fn text_in(rec: &[u8], field: Field) -> Text
     ensures { result ≡ text_of (bytes_in field rec.now) }
 {
@@ -91,6 +94,7 @@ pub(crate) fn text_in(rec: &[u8], field: Field) -> Text
 }
 
 // Puts a text that may be blank; one that is longer than its field leaves a byte 0, which is legal nowhere.
+#[tactic(auto, unfolding(crate::specs::Text::text_bytes, crate::specs::Text::bytes_of, crate::specs::Pieces::put))]
 pub(crate) fn put_text(out: &mut [u8], field: Field, text: Text)
     requires { field.1 ≤ 6 }
     ensures { out.new ≡ fill field (text_bytes field.1 text) out.old }
