@@ -1,22 +1,27 @@
 -- How far bytes go along with a form: bounds, one turn of a loop along its places, and the places of the three forms.
 -- Assumes nothing.
+use Rattle.std.specs.Prelude.{Option, None, Some, MatchOption}
+use Rattle.std.specs.Option.{unwrap_or}
+use Rattle.std.specs.List.{list_all, slice_range}
+use Rattle.std.proofs.lemmas.List.Folds.{drop_split}
+use Rattle.std.proofs.Math.Bool.{and_comm}
 use mathlib.Core.Path.{◌≡◌, refl, sym, ap, subst, ◌∙◌}
 use mathlib.Core.Bool.{Bool, true, false, cond, ◌&&◌, and-true, and-false, and_assoc}
-use mathlib.Core.List.{List, [], ◌∷◌, ◌++◌, map}
+use mathlib.Core.List.{List, [], ◌∷◌, ◌++◌, map, append_assoc}
 use Prim.Native.Nat.{ℕ, zero, suc, ◌+◌, ◌-◌, ◌/◌, ◌%◌, ◌≤◌, ◌<◌}
 use native.Mathlib.Omega.{arith}
 use native.Mathlib.Nat.{le_of_suc-le-suc, not-suc-le-zero}
 use native.Mathlib.Decide.{dec_lt}
 use lib.Dec.{eqb, ltb, eqb-suc-suc, eqb-zero-suc}
-use lib.ListN.{length, get_or, take, drop, replicate, length-append, length-map, length-drop, drop_of_length-le}
+use lib.ListN.{length, get_or, take, drop, replicate, take-append-drop, length-append, length-map, length-drop, drop_of_length-le}
 use lib.ListN.{get_or-eq_default, get_or-append, get_or-map, get_or-replicate}
-use lib.Seq.{drop-cons, get_or-take}
+use lib.Seq.{drop-cons, length-take-le}
 use borrow.Author.Tests.{eq-eqb, ne_eqb, ltb-true, ltb-false}
 use Rattle.slices.proofs.Cases.{split}
 use Rattle.slices.proofs.PartLaws.{one_less}
 use Rattle.digits.specs.Decimal.{decimal}
 use Rattle.digits.proofs.DecimalLaws.{decimal_width, decimal_ones, decimal_tens, decimal_hundreds, width_below_1000}
-use Rattle.corrections.specs.Lines.{Span, exactly, printable, allows, Form, ended, heading, change, reach, reach_at, whole, whole_at, printables}
+use Rattle.corrections.specs.Lines.{Span, exactly, printable, allows, Form, ended, heading, change, reach, reach_at, whole, whole_at}
 
 -- no further than the form, and no further than the bytes
 pub reach_within : (f : Form) (bs : List ℕ) → reach f bs ≤ length f
@@ -55,27 +60,24 @@ reach_at_lem s f i log {b} z e = by (dec_lt i (length log))
         let none : b ≡ 0 = e ∙ get_or-eq_default log 0 past in
         rw (drop_of_length-le log past, none, z)
 
--- whether the whole form stands there, place by place
-whole_at_lem : (s : Span) (f : Form) (i : ℕ) (log : List ℕ) {b : ℕ} → allows s 0 ≡ false → b ≡ get_or log i 0
-    → whole (s ∷ f) (drop i log) ≡ (allows s b && whole f (drop (i + 1) log))
-unfolding whole reach_at
-whole_at_lem s f i log {b} z e =
-    let first : reach (s ∷ f) (drop i log) ≡ cond (allows s b) (suc (reach f (drop (i + 1) log))) 0 = reach_at_lem s f i log z e in
-    split (allows s b) (λ t. rw (first, t) (eqb-suc-suc (reach f (drop (i + 1) log)) (length f))) (λ t. rw (first, t) (eqb-zero-suc (length f)))
-
-whole_ended : (i : ℕ) (log : List ℕ) → whole ended (drop i log) ≡ eqb (get_or log i 0) 10
+-- whether the whole form stands in front, place by place
+whole_cons : (s : Span) (f : Form) (b : ℕ) (bs : List ℕ) → whole (s ∷ f) (b ∷ bs) ≡ (allows s b && whole f bs)
 unfolding whole reach
-whole_ended i log = whole_at_lem (exactly 10) [] i log refl refl ∙ and-true (eqb (get_or log i 0) 10)
+whole_cons s f b bs =
+    split (allows s b) (λ t. rw t (eqb-suc-suc (reach f bs) (length f))) (λ t. rw t (eqb-zero-suc (length f)))
 
-whole_printables : (n : ℕ) (f : Form) (i : ℕ) (log : List ℕ)
-    → whole (replicate n printable ++ f) (drop i log) ≡ (printables n i log && whole f (drop (i + n) log))
-unfolding printables
-whole_printables zero f i log = let e : i + 0 ≡ i = omega arith in rw e
-whole_printables (suc n) f i log =
-    let e : i + suc n ≡ i + 1 + n = omega arith in
-    whole_at_lem printable (replicate n printable ++ f) i log refl refl
-    ∙ rw (whole_printables n f (i + 1) log, e)
-    (sym (and_assoc (allows printable (get_or log i 0)) (printables n (i + 1) log) (whole f (drop (i + 1 + n) log))))
+whole_end : (rest : List ℕ) → whole [] rest ≡ true
+unfolding whole reach
+whole_end rest = refl
+
+whole_record : (n : ℕ) (f : Form) (bytes rest : List ℕ) → length bytes ≡ n
+    → whole (replicate n printable ++ f) (bytes ++ rest) ≡ (list_all (allows printable) bytes && whole f rest)
+whole_record zero f [] rest h = refl
+whole_record zero f (b ∷ bs) rest h = absurd (omega arith)
+whole_record (suc n) f [] rest h = absurd (omega arith)
+whole_record (suc n) f (b ∷ bs) rest h =
+    whole_cons printable (replicate n printable ++ f) b (bs ++ rest)
+    ∙ rw (whole_record n f bs rest (omega arith)) (sym (and_assoc (allows printable b) (list_all (allows printable) bs) (whole f rest)))
 
 module _ (f : Form) (i : ℕ) (log : List ℕ) (k : ℕ) where
   -- how far they go, where k places were right
@@ -107,6 +109,28 @@ along_next f i log k z h e t =
     let q : i + k + 1 ≡ i + (k + 1) = omega arith in
     let s : suc k ≡ k + 1 = omega arith in
     along_cons f i log k z h e ∙ rw (t, q, s) (omega arith)
+
+-- the first place that is wrong, or where none is the form's end, is how far they go
+module _ (f : Form) (i : ℕ) (log : List ℕ) where
+  abbrev pub Right : ℕ → Type 0
+  Right k = allows (get_or f k (exactly 0)) (get_or log (i + k) 0) ≡ true
+
+  abbrev pub Wrong : ℕ → Type 0
+  Wrong k = allows (get_or f k (exactly 0)) (get_or log (i + k) 0) ≡ false
+
+  module _ (z : NoZero f) where
+    along_right : (n : ℕ) → n ≤ length f → ((k : ℕ) → 0 ≤ k → k < n → Right k) → reach_at f i log ≡ Along f i log n
+    along_right zero h right = along_start f i log
+    along_right (suc n) h right =
+        let e : n + 1 ≡ suc n = omega arith in
+        along_right n (omega arith) (λ k a b. right k a (omega arith))
+        ∙ along_next f i log n z (omega arith) refl (right n (omega arith) (omega arith)) ∙ rw e refl
+
+    reach_first : (r : Option ℕ)
+        → MatchOption r ((k : ℕ) → 0 ≤ k → k < length f → Right k) (λ n. (0 ≤ n) × (n < length f) × Wrong n × ((k : ℕ) → 0 ≤ k → k < n → Right k))
+        → unwrap_or r (length f) ≡ reach_at f i log
+    reach_first None right = sym (along_right (length f) (omega arith) right ∙ along_end f i log (length f) (omega arith))
+    reach_first (Some n) w = sym (along_right n (omega arith) w.3 ∙ along_stop f i log n z w.1 refl w.2)
 
 reach_at_most : (f : Form) (i : ℕ) (log : List ℕ) {r : ℕ} → r ≡ reach_at f i log → r ≤ length f
 unfolding reach_at
@@ -148,24 +172,35 @@ module _ (n : ℕ) where
 
   -- it begins with its letter
   pub heading_other : (i : ℕ) (log : List ℕ) {b : ℕ} → b ≡ get_or log i 0 → (b ≡ 67 → ⊥) → false ≡ whole_at (heading n) i log
-  unfolding heading whole_at
-  heading_other i log {b} e q = sym (whole_at_lem (exactly 67) _ i log refl e ∙ rw (ne_eqb b 67 q))
+  unfolding heading whole whole_at reach_at
+  heading_other i log {b} e q = sym (rw (reach_at_lem (exactly 67) _ i log refl e, ne_eqb b 67 q) (eqb-zero-suc _))
 
   pub heading_six : n < 1000 → length (heading n) ≤ 6
   heading_six h = omega (arith, heading_width, width_below_1000 n h)
 
--- one turn of the loop along its bytes, which stand in front of others
-module _ (n i : ℕ) (log bytes : List ℕ) (k : ℕ) {w b : ℕ} (small : n < 1000) (width : w ≡ length (heading n))
-    (text : map exactly (take w bytes) ≡ heading n) (h : k < w) (e : b ≡ get_or log (i + k) 0) where
-  place : get_or (heading n) k (exactly 0) ≡ exactly (get_or bytes k 0)
-  place =
-      ap (λ (f : Form). get_or f k (exactly 0)) (sym text) ∙ get_or-map exactly (take w bytes) k 0 ∙ ap exactly (get_or-take w bytes k 0 h)
+-- how far they go along with its text
+module _ (n i : ℕ) (log text : List ℕ) (small : n < 1000) (e : map exactly text ≡ heading n) where
+  place : (k : ℕ) → get_or (heading n) k (exactly 0) ≡ exactly (get_or text k 0)
+  place k = ap (λ (f : Form). get_or f k (exactly 0)) (sym e) ∙ get_or-map exactly text k 0
 
-  pub heading_stop : (b ≡ get_or bytes k 0 → ⊥) → Along (heading n) i log k ≡ k
-  heading_stop q = along_stop (heading n) i log k (heading_no_zero n small) (omega arith) e (rw place (ne_eqb b (get_or bytes k 0) q))
+  as_wide : length text ≡ length (heading n)
+  as_wide = sym (length-map text exactly) ∙ ap length e
 
-  pub heading_next : b ≡ get_or bytes k 0 → Along (heading n) i log k ≡ Along (heading n) i log (k + 1)
-  heading_next q = along_next (heading n) i log k (heading_no_zero n small) (omega arith) e (rw place (eq-eqb b (get_or bytes k 0) q))
+  heading_right : (k : ℕ) → get_or log (i + k) 0 ≡ get_or text k 0 → Right (heading n) i log k
+  heading_right k q = rw (place k) (eq-eqb (get_or log (i + k) 0) (get_or text k 0) q)
+
+  heading_wrong : (k : ℕ) → (get_or log (i + k) 0 ≡ get_or text k 0 → ⊥) → Wrong (heading n) i log k
+  heading_wrong k q = rw (place k) (ne_eqb (get_or log (i + k) 0) (get_or text k 0) q)
+
+  pub heading_first : (r : Option ℕ)
+      → MatchOption r ((k : ℕ) → 0 ≤ k → k < length text → get_or log (i + k) 0 ≡ get_or text k 0)
+      (λ m. (0 ≤ m) × (m < length text) × (get_or log (i + m) 0 ≡ get_or text m 0 → ⊥) × ((k : ℕ) → 0 ≤ k → k < m → get_or log (i + k) 0 ≡ get_or text k 0))
+      → unwrap_or r (length text) ≡ reach_at (heading n) i log
+  heading_first None right =
+      as_wide ∙ reach_first (heading n) i log (heading_no_zero n small) None (λ k a b. heading_right k (right k a (omega (arith, as_wide))))
+  heading_first (Some m) w =
+      reach_first (heading n) i log (heading_no_zero n small) (Some m)
+      (w.0, omega (arith, as_wide, w.1), heading_wrong m w.2, λ k a b. heading_right k (w.3 k a b))
 
 -- ---- a D or A line
 
@@ -194,73 +229,62 @@ module _ (letter : ℕ) where
   unfolding change
   change_end k g h = let e : k ≡ 134 = omega arith in rw e
 
--- whether it stands there, by its bytes
-module _ (letter i : ℕ) (log : List ℕ) (some : 0 < letter) where
-  change_whole : whole (change letter) (drop i log)
-      ≡ (eqb (get_or log i 0) letter && (eqb (get_or log (i + 1) 0) 9 && (printables 132 (i + 2) log && eqb (get_or log (i + 134) 0) 10)))
+-- whether it stands there, by the bytes of the log's part that is as long
+regroup : (a b c d : Bool) → (a && (b && (d && (c && true)))) ≡ (((a && b) && c) && d)
+regroup false b c d = refl
+regroup true false c d = refl
+regroup true true c d = rw (and-true c) (and_comm d c)
+
+module _ (letter : ℕ) where
+  change_whole : (part rest : List ℕ) → length part ≡ 135 → whole (change letter) (part ++ rest)
+      ≡ (((eqb (get_or part 0 0) letter && eqb (get_or part 1 0) 9) && eqb (get_or part (length part - 1) 0) 10)
+      && list_all (allows printable) (take (length part - 1 - 2) (drop 2 part)))
   unfolding change
-  change_whole =
-      let second : i + 1 + 1 ≡ i + 2 = omega arith in
-      let last : i + 2 + 132 ≡ i + 134 = omega arith in
-      whole_at_lem (exactly letter) (exactly 9 ∷ (replicate 132 printable ++ ended)) i log (ne_eqb 0 letter (λ (z : 0 ≡ letter). omega arith)) refl
+  change_whole [] rest h = absurd (omega arith)
+  change_whole (a ∷ []) rest h = absurd (omega arith)
+  change_whole (a ∷ b ∷ bs) rest h =
+      let last : length (a ∷ b ∷ bs) - 1 ≡ 134 = omega arith in
+      let none : drop 133 bs ≡ [] = drop_of_length-le bs {i = 133} (omega arith) in
+      let parts : bs ≡ take 132 bs ++ get_or bs 132 0 ∷ [] =
+      sym (take-append-drop 132 bs) ∙ ap (λ (l : List ℕ). take 132 bs ++ l) (drop-cons bs 132 0 (omega arith) ∙ ap (λ (l : List ℕ). get_or bs 132 0 ∷ l) none) in
+      let behind : bs ++ rest ≡ take 132 bs ++ get_or bs 132 0 ∷ rest =
+      ap (λ (l : List ℕ). l ++ rest) parts ∙ append_assoc (take 132 bs) (get_or bs 132 0 ∷ []) rest in
+      whole_cons (exactly letter) (exactly 9 ∷ (replicate 132 printable ++ ended)) a (b ∷ (bs ++ rest))
       ∙ rw (
-        whole_at_lem (exactly 9) (replicate 132 printable ++ ended) (i + 1) log refl refl,
-        second,
-        whole_printables 132 ended (i + 2) log,
+        whole_cons (exactly 9) (replicate 132 printable ++ ended) b (bs ++ rest),
+        behind,
+        whole_record 132 ended (take 132 bs) (get_or bs 132 0 ∷ rest) (length-take-le 132 bs (omega arith)),
+        whole_cons (exactly 10) [] (get_or bs 132 0) rest,
+        whole_end rest,
         last,
-        whole_ended (i + 134) log,
-      )
+      ) (regroup (eqb a letter) (eqb b 9) (eqb (get_or bs 132 0) 10) (list_all (allows printable) (take 132 bs)))
 
-  pub change_short : length log < i + 135 → false ≡ whole_at (change letter) i log
-  unfolding whole whole_at
-  change_short h =
-      sym (ne_eqb (reach (change letter) (drop i log)) (length (change letter))
-      (λ q. omega (arith, reach_length (change letter) (drop i log), length-drop i log, change_width letter)))
+  module _ (i : ℕ) (log : List ℕ) where
+    pub change_read : (part : List ℕ) → part ≡ slice_range log i (i + 135) → length part + i ≡ i + 135
+        → (((eqb (get_or part 0 0) letter && eqb (get_or part 1 0) 9) && eqb (get_or part (length part - 1) 0) 10)
+        && list_all (allows printable) (take (length part - 1 - 2) (drop 2 part))) ≡ whole_at (change letter) i log
+    unfolding whole_at
+    change_read part e h =
+        sym (ap (whole (change letter)) (drop_split log i (i + 135) (omega arith) ∙ ap (λ (l : List ℕ). l ++ drop (i + 135) log) (sym e))
+        ∙ change_whole part (drop (i + 135) log) (omega arith))
 
-  pub change_other : (get_or log i 0 ≡ letter → ⊥) → false ≡ whole_at (change letter) i log
-  unfolding whole_at
-  change_other q = sym (change_whole ∙ rw (ne_eqb (get_or log i 0) letter q))
+    pub change_short : length log < i + 135 → false ≡ whole_at (change letter) i log
+    unfolding whole whole_at
+    change_short h =
+        sym (ne_eqb (reach (change letter) (drop i log)) (length (change letter))
+        (λ q. omega (arith, reach_length (change letter) (drop i log), length-drop i log, change_width letter)))
 
-  pub change_untabbed : (get_or log (i + 1) 0 ≡ 9 → ⊥) → false ≡ whole_at (change letter) i log
-  unfolding whole_at
-  change_untabbed q = sym (change_whole ∙ rw (ne_eqb (get_or log (i + 1) 0) 9 q) (and-false (eqb (get_or log i 0) letter)))
-
-  pub change_unprintable : printables 132 (i + 2) log ≡ false → false ≡ whole_at (change letter) i log
-  unfolding whole_at
-  change_unprintable q = sym (change_whole ∙ rw (q, and-false (eqb (get_or log (i + 1) 0) 9)) (and-false (eqb (get_or log i 0) letter)))
-
-  pub change_ended : get_or log i 0 ≡ letter → get_or log (i + 1) 0 ≡ 9 → printables 132 (i + 2) log ≡ true
-      → eqb (get_or log (i + 134) 0) 10 ≡ whole_at (change letter) i log
-  unfolding whole_at
-  change_ended p q r = sym (change_whole ∙ rw (eq-eqb (get_or log i 0) letter p, eq-eqb (get_or log (i + 1) 0) 9 q, r))
-
--- whether n bytes may stand in a record, of which k were looked at and it is noted whether they may
-pub printable_left : Bool → ℕ → ℕ → List ℕ → ℕ → Bool
-printable_left fine n i log k = fine && printables (n - k) (i + k) log
-
-pub left_start : (n i : ℕ) (log : List ℕ) → printables n i log ≡ printable_left true n i log 0
-unfolding printable_left
-left_start n i log = let e : n - 0 ≡ n = omega arith in let f : i + 0 ≡ i = omega arith in rw (e, f)
-
-pub left_next : (fine : Bool) (n i : ℕ) (log : List ℕ) (k : ℕ) {right : Bool} → k < n → right ≡ allows printable (get_or log (i + k) 0)
-    → printable_left fine n i log k ≡ printable_left (fine && right) n i log (k + 1)
-unfolding printable_left printables
-left_next fine n i log k {right} h q =
-    let e : i + k + 1 ≡ i + (k + 1) = omega arith in
-    rw (one_less n k h, e, ← q) (sym (and_assoc fine right (printables (n - (k + 1)) (i + (k + 1)) log)))
-
-pub left_end : (fine : Bool) (n i : ℕ) (log : List ℕ) (k : ℕ) → n ≤ k → printable_left fine n i log k ≡ fine
-unfolding printable_left printables
-left_end fine n i log k h = let e : n - k ≡ 0 = omega arith in rw e (and-true fine)
-
--- one turn of the loop along its places
-module _ (letter i : ℕ) (log : List ℕ) (k : ℕ) {b : ℕ} {right : Bool} (some : 0 < letter) (h : k < 135) (e : b ≡ get_or log (i + k) 0)
-    (q : right ≡ allows (get_or (change letter) k (exactly 0)) b) where
-  pub change_stop : right ≡ false → Along (change letter) i log k ≡ k
-  change_stop t = along_stop (change letter) i log k (change_no_zero letter some) (omega (arith, change_width letter)) e (sym q ∙ t)
-
-  pub change_next : right ≡ true → Along (change letter) i log k ≡ Along (change letter) i log (k + 1)
-  change_next t = along_next (change letter) i log k (change_no_zero letter some) (omega (arith, change_width letter)) e (sym q ∙ t)
+-- how far they go along with it
+module _ (letter i : ℕ) (log : List ℕ) (some : 0 < letter) where
+  pub change_first : (r : Option ℕ)
+      → MatchOption r ((k : ℕ) → 0 ≤ k → k < 135 → Right (change letter) i log k)
+      (λ m. (0 ≤ m) × (m < 135) × Wrong (change letter) i log m × ((k : ℕ) → 0 ≤ k → k < m → Right (change letter) i log k))
+      → unwrap_or r 135 ≡ reach_at (change letter) i log
+  change_first None right =
+      sym (change_width letter)
+      ∙ reach_first (change letter) i log (change_no_zero letter some) None (λ k a b. right k a (omega (arith, change_width letter)))
+  change_first (Some m) w =
+      reach_first (change letter) i log (change_no_zero letter some) (Some m) (w.0, omega (arith, w.1, change_width letter), w.2, w.3)
 
 -- how far a heading and a D or A line can be gone along with
 module _ (i : ℕ) (log : List ℕ) {r : ℕ} where

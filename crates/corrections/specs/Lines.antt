@@ -54,11 +54,6 @@ whole f bs = eqb (reach f bs) (length f)
 unfoldable pub whole_at : Form → ℕ → List ℕ → Bool
 whole_at f i log = whole f (drop i log)
 
--- the n bytes of a log from an offset on may stand in a record
-unfoldable pub printables : (n at : ℕ) → List ℕ → Bool
-printables zero i log = true
-printables (suc n) i log = allows printable (get_or log i 0) && printables n (i + 1) log
-
 -- how many bytes from the left are as one of the forms has them
 unfoldable pub longest : List Form → List ℕ → ℕ
 longest [] bs = 0

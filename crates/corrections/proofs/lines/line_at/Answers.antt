@@ -24,8 +24,8 @@ returns-then-change_stands-2 c = line_put _ _ _ c.heading_stands.ensures c.if-he
 pub overflow_add-result-2 : goal.overflow_add-result-2
 overflow_add-result-2 c = omega (
   arith,
-  c.greater-2.ensures,
-  c.greater.ensures,
+  c.max-2.ensures,
+  c.max.ensures,
   heading_at_most _ _ _ c.reach_heading-headed.ensures,
   change_at_most _ _ 68 c.reach_change-taken.ensures,
   change_at_most _ _ 65 c.reach_change-put.ensures,
@@ -35,4 +35,4 @@ pub returns : goal.returns
 returns c = line_stopped _ _ _ c.heading_stands.ensures c.if-heading_stands.false c.if-begun-eq0.false c.change_stands.ensures
     c.if-change_stands.false c.change_stands-2.ensures c.if-change_stands-2.false
     c.reach_heading-headed.ensures c.reach_change-taken.ensures c.reach_change-put.ensures
-    c.greater.ensures c.greater-2.ensures
+    c.max.ensures c.max-2.ensures
