@@ -6,7 +6,7 @@ use Rattle.std.specs.List.{list_all, slice_range}
 use Rattle.std.proofs.lemmas.List.Folds.{drop_split}
 use Rattle.std.proofs.Math.Bool.{and_comm}
 use mathlib.Core.Path.{◌≡◌, refl, sym, ap, subst, ◌∙◌}
-use mathlib.Core.Bool.{Bool, true, false, cond, ◌&&◌, and-true, and-false, and_assoc}
+use mathlib.Core.Bool.{Bool, true, false, cond, ◌&&◌, and-true, and_assoc}
 use mathlib.Core.List.{List, [], ◌∷◌, ◌++◌, map, append_assoc}
 use Prim.Native.Nat.{ℕ, zero, suc, ◌+◌, ◌-◌, ◌/◌, ◌%◌, ◌≤◌, ◌<◌}
 use native.Mathlib.Omega.{arith}
@@ -18,9 +18,8 @@ use lib.ListN.{get_or-eq_default, get_or-append, get_or-map, get_or-replicate}
 use lib.Seq.{drop-cons, length-take-le}
 use borrow.Author.Tests.{eq-eqb, ne_eqb, ltb-true, ltb-false}
 use Rattle.slices.proofs.Cases.{split}
-use Rattle.slices.proofs.PartLaws.{one_less}
 use Rattle.digits.specs.Decimal.{decimal}
-use Rattle.digits.proofs.DecimalLaws.{decimal_width, decimal_ones, decimal_tens, decimal_hundreds, width_below_1000}
+use Rattle.digits.proofs.DecimalLaws.{decimal_width, decimal_ones, decimal_tens, decimal_hundreds}
 use Rattle.corrections.specs.Lines.{Span, exactly, printable, allows, Form, ended, heading, change, reach, reach_at, whole, whole_at}
 
 -- no further than the form, and no further than the bytes
@@ -175,9 +174,6 @@ module _ (n : ℕ) where
   unfolding heading whole whole_at reach_at
   heading_other i log {b} e q = sym (rw (reach_at_lem (exactly 67) _ i log refl e, ne_eqb b 67 q) (eqb-zero-suc _))
 
-  pub heading_six : n < 1000 → length (heading n) ≤ 6
-  heading_six h = omega (arith, heading_width, width_below_1000 n h)
-
 -- how far they go along with its text
 module _ (n i : ℕ) (log text : List ℕ) (small : n < 1000) (e : map exactly text ≡ heading n) where
   place : (k : ℕ) → get_or (heading n) k (exactly 0) ≡ exactly (get_or text k 0)
@@ -224,10 +220,6 @@ module _ (letter : ℕ) where
   change_record (suc zero) g f h = absurd (f refl)
   change_record (suc (suc k)) g f h =
       get_or-append (replicate 132 printable) ended (exactly 0) k (omega arith) ∙ get_or-replicate 132 k printable (exactly 0) (omega arith)
-
-  pub change_end : (k : ℕ) → 134 ≤ k → k < 135 → get_or (change letter) k (exactly 0) ≡ exactly 10
-  unfolding change
-  change_end k g h = let e : k ≡ 134 = omega arith in rw e
 
 -- whether it stands there, by the bytes of the log's part that is as long
 regroup : (a b c d : Bool) → (a && (b && (d && (c && true)))) ≡ (((a && b) && c) && d)

@@ -1,7 +1,7 @@
 -- The lines that a log may have, as forms: for each place of a line the bytes that may stand there. How far some bytes go along with a
 -- form says whether they are such a line, and from which byte on they can't be completed to one.
 -- Assumes nothing.
-use Rattle.std.specs.Prelude.{ℕ, zero, suc, ◌+◌, max, Bool, true, cond, ◌&&◌, List, [], ◌∷◌, ◌++◌, map, eqb, leb, length, get_or, drop, replicate, Result, Ok, Err}
+use Rattle.std.specs.Prelude.{ℕ, suc, ◌+◌, max, Bool, cond, ◌&&◌, List, [], ◌∷◌, ◌++◌, map, eqb, leb, length, drop, replicate, Result, Ok, Err}
 use Rattle.digits.specs.Decimal.{decimal}
 use Rattle.corrections.specs.declared.lines.Line.{Line}
 use Rattle.corrections.specs.declared.lines.Line.TheVariants.{Heading, TakenOut, PutIn}

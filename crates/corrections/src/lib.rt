@@ -85,14 +85,7 @@ impl Index {
     }
 }
 
-// How many A lines have room beside so many frozen records.
-fn room_beside(frozen: usize) -> usize
-    ensures { result ≡ 480 - frozen }
-{
-    MOST_RECORDS.saturating_sub(frozen)
-}
-
-// How many have room after a line.
+// How many A lines have room after a line.
 fn room_after(line: Line, room: usize) -> usize
     ensures { result ≡ room_after room line }
 {
@@ -137,7 +130,7 @@ pub fn index_of(log: &[u8], frozen: usize) -> Result<Index, Refusal>
         count: 0,
         entries: [NO_ENTRY; MOST_CHANGES],
     };
-    let mut room = room_beside(frozen);
+    let mut room = MOST_RECORDS.saturating_sub(frozen);
     let mut number: usize = 1;
     let mut at: usize = 0;
     while at < log.len() {

@@ -53,14 +53,16 @@ fn reach_heading(log: &[u8], i: usize, n: usize) -> usize
 {
     let mut space = [0; 6];
     let text = heading_text(n, &mut space);
-    (0..text.len()).find(|&k| byte_at(log, i + k) != text[k]).unwrap_or(text.len())
+    (0..text.len())
+        .find(|&k| byte_at(log, i + k) != text[k])
+        .unwrap_or(text.len())
 }
 
 // Whether a byte may stand in a record.
 fn is_printable(b: u8) -> bool
     ensures { result ≡ allows printable b }
 {
-    (32 <= b) & (b <= 126)
+    (b' '..=b'~').contains(&b)
 }
 
 // Whether a byte may stand at a place, counted from 0, of a D or A line: its letter, a tab, the 132 bytes of a record and the line feed.
@@ -68,16 +70,12 @@ fn change_allows(letter: u8, k: usize, b: u8) -> bool
     requires { k < 135 }
     ensures { result ≡ allows (get_or (change letter) k (exactly 0)) b }
 {
-    if k == 0 {
-        return b == letter;
+    match k {
+        0 => b == letter,
+        1 => b == b'\t',
+        134 => b == b'\n',
+        _ => is_printable(b),
     }
-    if k == 1 {
-        return b == b'\t';
-    }
-    if k < 134 {
-        return is_printable(b);
-    }
-    b == b'\n'
 }
 
 // How far they go along with a D or A line.
@@ -85,7 +83,9 @@ fn reach_change(log: &[u8], i: usize, letter: u8) -> usize
     requires { (i < 70000) × (0 < letter) }
     ensures { result ≡ reach_at (change letter) i log.now }
 {
-    (0..CHANGE_WIDTH).find(|&k| !change_allows(letter, k, byte_at(log, i + k))).unwrap_or(CHANGE_WIDTH)
+    (0..CHANGE_WIDTH)
+        .find(|&k| !change_allows(letter, k, byte_at(log, i + k)))
+        .unwrap_or(CHANGE_WIDTH)
 }
 
 // Whether the heading of a correction stands at an offset. Most lines are told from one by their letter.

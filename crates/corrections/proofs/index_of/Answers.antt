@@ -11,7 +11,7 @@ pub returns-then-log-gt-LONGEST_LOG : goal.returns-then-log-gt-LONGEST_LOG
 returns-then-log-gt-LONGEST_LOG c = too_long_lem _ _ c.if-log-gt-LONGEST_LOG.true c.log_too_long.ensures
 
 pub loop-at-init : goal.loop-at-init
-loop-at-init c = (kept_start _ (search rules) index_start, reading_start _ _ (search rules) index_start c.room_beside-room.ensures)
+loop-at-init c = (kept_start _ (search rules) index_start, reading_start _ _ (search rules) index_start c.saturating_sub-room.ensures)
 
 pub returns-in_err-line : goal.returns-in_err-line
 returns-in_err-line c = let inv = c.loop-at.invariant in

@@ -1,6 +1,6 @@
 -- By the part of the log that is as long, where there is one. Assumes nothing.
 use native.Mathlib.Omega.{arith}
-use mathlib.Core.Path.{sym, ◌∙◌}
+use mathlib.Core.Path.{◌∙◌}
 use Rattle.corrections.proofs.ReachLaws.{change_short, change_read}
 use Rattle.corrections.proofs.lines.change_stands.Goals as goal
 
