@@ -2,25 +2,24 @@
 -- Assumes nothing.
 use Rattle.std.specs.Prelude.{Option, None, Some, MatchOption}
 use Rattle.std.specs.Option.{unwrap_or}
-use Rattle.std.specs.List.{list_all, slice_range}
-use Rattle.std.proofs.lemmas.List.Folds.{drop_split}
+use Rattle.std.specs.List.{list_all}
+use Rattle.std.specs.Cmp.Lexicographic.{pointwise}
 use Rattle.std.proofs.Math.Bool.{and_comm}
 use mathlib.Core.Path.{◌≡◌, refl, sym, ap, subst, ◌∙◌}
-use mathlib.Core.Bool.{Bool, true, false, cond, ◌&&◌, and-true, and_assoc}
+use mathlib.Core.Bool.{Bool, true, false, ◌&&◌, and-true, and_assoc}
 use mathlib.Core.List.{List, [], ◌∷◌, ◌++◌, map, append_assoc}
 use Prim.Native.Nat.{ℕ, zero, suc, ◌+◌, ◌-◌, ◌/◌, ◌%◌, ◌≤◌, ◌<◌}
 use native.Mathlib.Omega.{arith}
 use native.Mathlib.Nat.{le_of_suc-le-suc, not-suc-le-zero}
-use native.Mathlib.Decide.{dec_lt}
 use lib.Dec.{eqb, ltb, eqb-suc-suc, eqb-zero-suc}
-use lib.ListN.{length, get_or, take, drop, replicate, take-append-drop, length-append, length-map, length-drop, drop_of_length-le}
-use lib.ListN.{get_or-eq_default, get_or-append, get_or-map, get_or-replicate}
+use lib.ListN.{length, get_or, take, drop, replicate, take-append-drop, length-append, length-map, drop_of_length-le}
+use lib.ListN.{get_or-append, get_or-map, get_or-replicate}
 use lib.Seq.{drop-cons, length-take-le}
-use borrow.Author.Tests.{eq-eqb, ne_eqb, ltb-true, ltb-false}
+use borrow.Author.Tests.{eq-eqb, ne_eqb, eqb-true, eqb-false, ltb-true, ltb-false}
 use Rattle.slices.proofs.Cases.{split}
 use Rattle.digits.specs.Decimal.{decimal}
 use Rattle.digits.proofs.DecimalLaws.{decimal_width, decimal_ones, decimal_tens, decimal_hundreds}
-use Rattle.corrections.specs.Lines.{Span, exactly, printable, allows, Form, ended, heading, change, reach, reach_at, whole, whole_at}
+use Rattle.corrections.specs.Lines.{Span, exactly, printable, allows, Form, ended, heading, change, reach, whole}
 
 -- no further than the form, and no further than the bytes
 pub reach_within : (f : Form) (bs : List ℕ) → reach f bs ≤ length f
@@ -35,31 +34,48 @@ reach_length [] bs = omega arith
 reach_length (s ∷ f) [] = omega arith
 reach_length (s ∷ f) (b ∷ bs) = split (allows s b) (λ e. rw e (omega (arith, reach_length f bs))) (λ e. rw e (omega arith))
 
--- ---- along a form that lets no 0 in, so past the log's end too, where a byte reads as 0
+-- ---- along a form that lets no 0 in, so past the last byte too, where it reads as 0
 
 abbrev NoZero : Form → Type 0
 NoZero [] = Unit {0}
 NoZero (s ∷ f) = (allows s 0 ≡ false) × NoZero f
 
-no_zero_at : (f : Form) (k : ℕ) → NoZero f → k < length f → allows (get_or f k (exactly 0)) 0 ≡ false
-no_zero_at [] k z h = absurd (not-suc-le-zero h)
-no_zero_at (s ∷ f) zero z h = z.0
-no_zero_at (s ∷ f) (suc k) z h = no_zero_at f k z.1 (le_of_suc-le-suc h)
+-- the byte at a place may stand there, or may not
+module _ (f : Form) (bs : List ℕ) where
+  abbrev pub Right : ℕ → Type 0
+  Right k = allows (get_or f k (exactly 0)) (get_or bs k 0) ≡ true
 
--- one place
-reach_at_lem : (s : Span) (f : Form) (i : ℕ) (log : List ℕ) {b : ℕ} → allows s 0 ≡ false → b ≡ get_or log i 0
-    → reach_at (s ∷ f) i log ≡ cond (allows s b) (suc (reach_at f (i + 1) log)) 0
-unfolding reach reach_at
-reach_at_lem s f i log {b} z e = by (dec_lt i (length log))
-  where
-    by : Dec (i < length log) → reach (s ∷ f) (drop i log) ≡ cond (allows s b) (suc (reach f (drop (i + 1) log))) 0
-    by (yes h) = let q : i + 1 ≡ suc i = omega arith in rw (drop-cons log i 0 h, e, q)
-    by (no h) =
-        let past : length log ≤ i = omega arith in
-        let none : b ≡ 0 = e ∙ get_or-eq_default log 0 past in
-        rw (drop_of_length-le log past, none, z)
+  abbrev pub Wrong : ℕ → Type 0
+  Wrong k = allows (get_or f k (exactly 0)) (get_or bs k 0) ≡ false
 
--- whether the whole form stands in front, place by place
+-- they go on to the first that may not, or to the form's end
+reach_stop : (f : Form) (bs : List ℕ) (n : ℕ) → NoZero f → n < length f → Wrong f bs n → ((k : ℕ) → 0 ≤ k → k < n → Right f bs k)
+    → reach f bs ≡ n
+unfolding reach
+reach_stop [] bs n z h w r = absurd (not-suc-le-zero h)
+reach_stop (s ∷ f) [] zero z h w r = refl
+reach_stop (s ∷ f) (b ∷ bs) zero z h w r = rw w
+reach_stop (s ∷ f) [] (suc n) z h w r = let both : true ≡ false = sym (r 0 (omega arith) (omega arith)) ∙ z.0 in absurd cc
+reach_stop (s ∷ f) (b ∷ bs) (suc n) z h w r =
+    rw (r 0 (omega arith) (omega arith))
+    (ap suc (reach_stop f bs n z.1 (le_of_suc-le-suc h) w (λ k a q. r (suc k) (omega arith) (omega arith))))
+
+reach_end : (f : Form) (bs : List ℕ) → NoZero f → ((k : ℕ) → 0 ≤ k → k < length f → Right f bs k) → reach f bs ≡ length f
+unfolding reach
+reach_end [] bs z r = refl
+reach_end (s ∷ f) [] z r = let both : true ≡ false = sym (r 0 (omega arith) (omega arith)) ∙ z.0 in absurd cc
+reach_end (s ∷ f) (b ∷ bs) z r =
+    rw (r 0 (omega arith) (omega arith)) (ap suc (reach_end f bs z.1 (λ k a q. r (suc k) (omega arith) (omega arith))))
+
+reach_first : (f : Form) (bs : List ℕ) → NoZero f → (r : Option ℕ)
+    → MatchOption r ((k : ℕ) → 0 ≤ k → k < length f → Right f bs k)
+    (λ n. (0 ≤ n) × (n < length f) × Wrong f bs n × ((k : ℕ) → 0 ≤ k → k < n → Right f bs k))
+    → unwrap_or r (length f) ≡ reach f bs
+reach_first f bs z None right = sym (reach_end f bs z right)
+reach_first f bs z (Some n) w = sym (reach_stop f bs n z w.1 w.2 w.3)
+
+-- ---- the whole form, place by place
+
 whole_cons : (s : Span) (f : Form) (b : ℕ) (bs : List ℕ) → whole (s ∷ f) (b ∷ bs) ≡ (allows s b && whole f bs)
 unfolding whole reach
 whole_cons s f b bs =
@@ -68,6 +84,10 @@ whole_cons s f b bs =
 whole_end : (rest : List ℕ) → whole [] rest ≡ true
 unfolding whole reach
 whole_end rest = refl
+
+whole_none : (s : Span) (f : Form) → whole (s ∷ f) [] ≡ false
+unfolding whole reach
+whole_none s f = eqb-zero-suc (length f)
 
 whole_record : (n : ℕ) (f : Form) (bytes rest : List ℕ) → length bytes ≡ n
     → whole (replicate n printable ++ f) (bytes ++ rest) ≡ (list_all (allows printable) bytes && whole f rest)
@@ -78,62 +98,15 @@ whole_record (suc n) f (b ∷ bs) rest h =
     whole_cons printable (replicate n printable ++ f) b (bs ++ rest)
     ∙ rw (whole_record n f bs rest (omega arith)) (sym (and_assoc (allows printable b) (list_all (allows printable) bs) (whole f rest)))
 
-module _ (f : Form) (i : ℕ) (log : List ℕ) (k : ℕ) where
-  -- how far they go, where k places were right
-  unfoldable pub Along : ℕ
-  Along = k + reach_at (drop k f) (i + k) log
+-- of a text: the bytes begin with it
+either_way : (a b : ℕ) → eqb a b ≡ eqb b a
+either_way a b =
+    split (eqb a b) (λ e. rw (e, eq-eqb b a (sym (eqb-true a b e)))) (λ e. rw (e, ne_eqb b a (λ q. eqb-false a b e (sym q))))
 
-  pub along_end : length f ≤ k → Along ≡ k
-  unfolding Along reach reach_at
-  along_end h = rw (drop_of_length-le f h) (omega arith)
-
-  module _ {b : ℕ} (z : NoZero f) (h : k < length f) (e : b ≡ get_or log (i + k) 0) where
-    along_cons : Along ≡ k + cond (allows (get_or f k (exactly 0)) b) (suc (reach_at (drop (suc k) f) (i + k + 1) log)) 0
-    unfolding Along
-    along_cons =
-        rw (drop-cons f k (exactly 0) h)
-        (ap (λ (n : ℕ). k + n) (reach_at_lem (get_or f k (exactly 0)) (drop (suc k) f) (i + k) log (no_zero_at f k z h) e))
-
-    along_stop : allows (get_or f k (exactly 0)) b ≡ false → Along ≡ k
-    along_stop t = along_cons ∙ rw t (omega arith)
-
-pub along_start : (f : Form) (i : ℕ) (log : List ℕ) → reach_at f i log ≡ Along f i log 0
-unfolding Along
-along_start f i log = let e : i + 0 ≡ i = omega arith in rw e (omega arith)
-
-along_next : (f : Form) (i : ℕ) (log : List ℕ) (k : ℕ) {b : ℕ} → NoZero f → k < length f → b ≡ get_or log (i + k) 0
-    → allows (get_or f k (exactly 0)) b ≡ true → Along f i log k ≡ Along f i log (k + 1)
-unfolding Along
-along_next f i log k z h e t =
-    let q : i + k + 1 ≡ i + (k + 1) = omega arith in
-    let s : suc k ≡ k + 1 = omega arith in
-    along_cons f i log k z h e ∙ rw (t, q, s) (omega arith)
-
--- the first place that is wrong, or where none is the form's end, is how far they go
-module _ (f : Form) (i : ℕ) (log : List ℕ) where
-  abbrev pub Right : ℕ → Type 0
-  Right k = allows (get_or f k (exactly 0)) (get_or log (i + k) 0) ≡ true
-
-  abbrev pub Wrong : ℕ → Type 0
-  Wrong k = allows (get_or f k (exactly 0)) (get_or log (i + k) 0) ≡ false
-
-  module _ (z : NoZero f) where
-    along_right : (n : ℕ) → n ≤ length f → ((k : ℕ) → 0 ≤ k → k < n → Right k) → reach_at f i log ≡ Along f i log n
-    along_right zero h right = along_start f i log
-    along_right (suc n) h right =
-        let e : n + 1 ≡ suc n = omega arith in
-        along_right n (omega arith) (λ k a b. right k a (omega arith))
-        ∙ along_next f i log n z (omega arith) refl (right n (omega arith) (omega arith)) ∙ rw e refl
-
-    reach_first : (r : Option ℕ)
-        → MatchOption r ((k : ℕ) → 0 ≤ k → k < length f → Right k) (λ n. (0 ≤ n) × (n < length f) × Wrong n × ((k : ℕ) → 0 ≤ k → k < n → Right k))
-        → unwrap_or r (length f) ≡ reach_at f i log
-    reach_first None right = sym (along_right (length f) (omega arith) right ∙ along_end f i log (length f) (omega arith))
-    reach_first (Some n) w = sym (along_right n (omega arith) w.3 ∙ along_stop f i log n z w.1 refl w.2)
-
-reach_at_most : (f : Form) (i : ℕ) (log : List ℕ) {r : ℕ} → r ≡ reach_at f i log → r ≤ length f
-unfolding reach_at
-reach_at_most f i log e = omega (arith, reach_within f (drop i log))
+whole_text : (text bs : List ℕ) → pointwise eqb text (take (length text) bs) ≡ whole (map exactly text) bs
+whole_text [] bs = sym (whole_end bs)
+whole_text (t ∷ ts) [] = sym (whole_none (exactly t) (map exactly ts))
+whole_text (t ∷ ts) (b ∷ bs) = sym (whole_cons (exactly t) (map exactly ts) b bs ∙ rw (← whole_text ts bs, either_way b t))
 
 -- ---- the heading of a correction
 
@@ -169,33 +142,37 @@ module _ (n : ℕ) where
       digit : (m : ℕ) → eqb 0 (m % 10 + 48) ≡ false
       digit m = ne_eqb 0 (m % 10 + 48) (λ (z : 0 ≡ m % 10 + 48). omega arith)
 
-  -- it begins with its letter
-  pub heading_other : (i : ℕ) (log : List ℕ) {b : ℕ} → b ≡ get_or log i 0 → (b ≡ 67 → ⊥) → false ≡ whole_at (heading n) i log
-  unfolding heading whole whole_at reach_at
-  heading_other i log {b} e q = sym (rw (reach_at_lem (exactly 67) _ i log refl e, ne_eqb b 67 q) (eqb-zero-suc _))
+  -- it begins with its letter, and some bytes begin with it or don't
+  pub heading_other : (bs : List ℕ) {b : ℕ} → b ≡ get_or bs 0 0 → (b ≡ 67 → ⊥) → eqb b 67 ≡ whole (heading n) bs
+  unfolding heading
+  heading_other [] {b} e q = ne_eqb b 67 q ∙ sym (whole_none (exactly 67) _)
+  heading_other (c ∷ cs) {b} e q = ne_eqb b 67 q ∙ sym (whole_cons (exactly 67) _ c cs ∙ rw (← e, ne_eqb b 67 q))
+
+  pub heading_whole : (text bs : List ℕ) → map exactly text ≡ heading n → pointwise eqb text (take (length text) bs) ≡ whole (heading n) bs
+  heading_whole text bs e = whole_text text bs ∙ ap (λ (f : Form). whole f bs) e
 
 -- how far they go along with its text
-module _ (n i : ℕ) (log text : List ℕ) (small : n < 1000) (e : map exactly text ≡ heading n) where
-  place : (k : ℕ) → get_or (heading n) k (exactly 0) ≡ exactly (get_or text k 0)
-  place k = ap (λ (f : Form). get_or f k (exactly 0)) (sym e) ∙ get_or-map exactly text k 0
-
+module _ (n : ℕ) (bs text : List ℕ) (small : n < 1000) (e : map exactly text ≡ heading n) where
   as_wide : length text ≡ length (heading n)
   as_wide = sym (length-map text exactly) ∙ ap length e
 
-  heading_right : (k : ℕ) → get_or log (i + k) 0 ≡ get_or text k 0 → Right (heading n) i log k
-  heading_right k q = rw (place k) (eq-eqb (get_or log (i + k) 0) (get_or text k 0) q)
+  place : (k : ℕ) → get_or (heading n) k (exactly 0) ≡ exactly (get_or text k 0)
+  place k = ap (λ (f : Form). get_or f k (exactly 0)) (sym e) ∙ get_or-map exactly text k 0
 
-  heading_wrong : (k : ℕ) → (get_or log (i + k) 0 ≡ get_or text k 0 → ⊥) → Wrong (heading n) i log k
-  heading_wrong k q = rw (place k) (ne_eqb (get_or log (i + k) 0) (get_or text k 0) q)
+  heading_right : (k : ℕ) → get_or bs k 0 ≡ get_or text k 0 → Right (heading n) bs k
+  heading_right k q = rw (place k) (eq-eqb (get_or bs k 0) (get_or text k 0) q)
+
+  heading_wrong : (k : ℕ) → (get_or bs k 0 ≡ get_or text k 0 → ⊥) → Wrong (heading n) bs k
+  heading_wrong k q = rw (place k) (ne_eqb (get_or bs k 0) (get_or text k 0) q)
 
   pub heading_first : (r : Option ℕ)
-      → MatchOption r ((k : ℕ) → 0 ≤ k → k < length text → get_or log (i + k) 0 ≡ get_or text k 0)
-      (λ m. (0 ≤ m) × (m < length text) × (get_or log (i + m) 0 ≡ get_or text m 0 → ⊥) × ((k : ℕ) → 0 ≤ k → k < m → get_or log (i + k) 0 ≡ get_or text k 0))
-      → unwrap_or r (length text) ≡ reach_at (heading n) i log
+      → MatchOption r ((k : ℕ) → 0 ≤ k → k < length text → get_or bs k 0 ≡ get_or text k 0)
+      (λ m. (0 ≤ m) × (m < length text) × (get_or bs m 0 ≡ get_or text m 0 → ⊥) × ((k : ℕ) → 0 ≤ k → k < m → get_or bs k 0 ≡ get_or text k 0))
+      → unwrap_or r (length text) ≡ reach (heading n) bs
   heading_first None right =
-      as_wide ∙ reach_first (heading n) i log (heading_no_zero n small) None (λ k a b. heading_right k (right k a (omega (arith, as_wide))))
+      as_wide ∙ reach_first (heading n) bs (heading_no_zero n small) None (λ k a b. heading_right k (right k a (omega (arith, as_wide))))
   heading_first (Some m) w =
-      reach_first (heading n) i log (heading_no_zero n small) (Some m)
+      reach_first (heading n) bs (heading_no_zero n small) (Some m)
       (w.0, omega (arith, as_wide, w.1), heading_wrong m w.2, λ k a b. heading_right k (w.3 k a b))
 
 -- ---- a D or A line
@@ -251,37 +228,33 @@ module _ (letter : ℕ) where
         last,
       ) (regroup (eqb a letter) (eqb b 9) (eqb (get_or bs 132 0) 10) (list_all (allows printable) (take 132 bs)))
 
-  module _ (i : ℕ) (log : List ℕ) where
-    pub change_read : (part : List ℕ) → part ≡ slice_range log i (i + 135) → length part + i ≡ i + 135
-        → (((eqb (get_or part 0 0) letter && eqb (get_or part 1 0) 9) && eqb (get_or part (length part - 1) 0) 10)
-        && list_all (allows printable) (take (length part - 1 - 2) (drop 2 part))) ≡ whole_at (change letter) i log
-    unfolding whole_at
-    change_read part e h =
-        sym (ap (whole (change letter)) (drop_split log i (i + 135) (omega arith) ∙ ap (λ (l : List ℕ). l ++ drop (i + 135) log) (sym e))
-        ∙ change_whole part (drop (i + 135) log) (omega arith))
+  pub change_read : (bs part : List ℕ) → part ≡ take 135 bs → length part ≡ 135
+      → (((eqb (get_or part 0 0) letter && eqb (get_or part 1 0) 9) && eqb (get_or part (length part - 1) 0) 10)
+      && list_all (allows printable) (take (length part - 1 - 2) (drop 2 part))) ≡ whole (change letter) bs
+  change_read bs part e h =
+      sym (change_whole part (drop 135 bs) h)
+      ∙ ap (whole (change letter)) (ap (λ (l : List ℕ). l ++ drop 135 bs) e ∙ take-append-drop 135 bs)
 
-    pub change_short : length log < i + 135 → false ≡ whole_at (change letter) i log
-    unfolding whole whole_at
-    change_short h =
-        sym (ne_eqb (reach (change letter) (drop i log)) (length (change letter))
-        (λ q. omega (arith, reach_length (change letter) (drop i log), length-drop i log, change_width letter)))
+  pub change_short : (bs : List ℕ) → length bs < 135 → false ≡ whole (change letter) bs
+  unfolding whole
+  change_short bs h =
+      sym (ne_eqb (reach (change letter) bs) (length (change letter)) (λ q. omega (arith, reach_length (change letter) bs, change_width letter)))
 
 -- how far they go along with it
-module _ (letter i : ℕ) (log : List ℕ) (some : 0 < letter) where
-  pub change_first : (r : Option ℕ)
-      → MatchOption r ((k : ℕ) → 0 ≤ k → k < 135 → Right (change letter) i log k)
-      (λ m. (0 ≤ m) × (m < 135) × Wrong (change letter) i log m × ((k : ℕ) → 0 ≤ k → k < m → Right (change letter) i log k))
-      → unwrap_or r 135 ≡ reach_at (change letter) i log
-  change_first None right =
-      sym (change_width letter)
-      ∙ reach_first (change letter) i log (change_no_zero letter some) None (λ k a b. right k a (omega (arith, change_width letter)))
-  change_first (Some m) w =
-      reach_first (change letter) i log (change_no_zero letter some) (Some m) (w.0, omega (arith, w.1, change_width letter), w.2, w.3)
+pub change_first : (letter : ℕ) (bs : List ℕ) → 0 < letter → (r : Option ℕ)
+    → MatchOption r ((k : ℕ) → 0 ≤ k → k < 135 → Right (change letter) bs k)
+    (λ m. (0 ≤ m) × (m < 135) × Wrong (change letter) bs m × ((k : ℕ) → 0 ≤ k → k < m → Right (change letter) bs k))
+    → unwrap_or r 135 ≡ reach (change letter) bs
+change_first letter bs some None right =
+    sym (change_width letter)
+    ∙ reach_first (change letter) bs (change_no_zero letter some) None (λ k a b. right k a (omega (arith, change_width letter)))
+change_first letter bs some (Some m) w =
+    reach_first (change letter) bs (change_no_zero letter some) (Some m) (w.0, omega (arith, w.1, change_width letter), w.2, w.3)
 
 -- how far a heading and a D or A line can be gone along with
-module _ (i : ℕ) (log : List ℕ) {r : ℕ} where
-  pub heading_at_most : (n : ℕ) → r ≡ reach_at (heading n) i log → r ≤ 23
-  heading_at_most n e = omega (arith, reach_at_most (heading n) i log e, (heading_short n).1)
+module _ (bs : List ℕ) {r : ℕ} where
+  pub heading_at_most : (n : ℕ) → r ≡ reach (heading n) bs → r ≤ 23
+  heading_at_most n e = omega (arith, reach_within (heading n) bs, (heading_short n).1)
 
-  pub change_at_most : (letter : ℕ) → r ≡ reach_at (change letter) i log → r ≤ 135
-  change_at_most letter e = omega (arith, reach_at_most (change letter) i log e, change_width letter)
+  pub change_at_most : (letter : ℕ) → r ≡ reach (change letter) bs → r ≤ 135
+  change_at_most letter e = omega (arith, reach_within (change letter) bs, change_width letter)

@@ -1,8 +1,8 @@
-// One line of a log: which line stands at an offset, and the first byte from which none can be completed there.
-// Assumes of its callers, all in this crate, that an offset is not far past 60,000 and that no more than 200 corrections have begun.
+// One line of a log: which line stands in front of what is left of it, and the first byte from which none can be completed there.
+// Assumes of its callers, all in this crate, that no more than 200 corrections have begun.
 ghost use Rattle.std.specs.Prelude.{◌≡◌, map, ◌+◌, ◌%◌, ◌<◌, ◌≤◌, length, get_or};
 ghost use Rattle.std.specs.List.{list_all};
-ghost use Rattle.corrections.specs.Lines.{exactly, printable, allows, heading, change, reach_at, whole_at, line_at};
+ghost use Rattle.corrections.specs.Lines.{exactly, printable, allows, heading, change, reach, whole, line_of};
 
 use crate::CHANGE_WIDTH;
 use slices::byte_at;
@@ -46,15 +46,15 @@ pub(crate) fn heading_width(n: usize) -> usize
     heading_text(n, &mut [0; 6]).len()
 }
 
-// How far the bytes from an offset on go along with the heading of a correction.
-fn reach_heading(log: &[u8], i: usize, n: usize) -> usize
-    requires { (i < 70000) × (n < 1000) }
-    ensures { result ≡ reach_at (heading n) i log.now }
+// How far bytes go along with the heading of a correction.
+fn reach_heading(bytes: &[u8], n: usize) -> usize
+    requires { n < 1000 }
+    ensures { result ≡ reach (heading n) bytes.now }
 {
     let mut space = [0; 6];
     let text = heading_text(n, &mut space);
     (0..text.len())
-        .find(|&k| byte_at(log, i + k) != text[k])
+        .find(|&k| byte_at(bytes, k) != text[k])
         .unwrap_or(text.len())
 }
 
@@ -79,24 +79,25 @@ fn change_allows(letter: u8, k: usize, b: u8) -> bool
 }
 
 // How far they go along with a D or A line.
-fn reach_change(log: &[u8], i: usize, letter: u8) -> usize
-    requires { (i < 70000) × (0 < letter) }
-    ensures { result ≡ reach_at (change letter) i log.now }
+fn reach_change(bytes: &[u8], letter: u8) -> usize
+    requires { 0 < letter }
+    ensures { result ≡ reach (change letter) bytes.now }
 {
     (0..CHANGE_WIDTH)
-        .find(|&k| !change_allows(letter, k, byte_at(log, i + k)))
+        .find(|&k| !change_allows(letter, k, byte_at(bytes, k)))
         .unwrap_or(CHANGE_WIDTH)
 }
 
-// Whether the heading of a correction stands at an offset. Most lines are told from one by their letter.
-fn heading_stands(log: &[u8], i: usize, n: usize) -> bool
-    requires { (i < 70000) × (n < 1000) }
-    ensures { result ≡ whole_at (heading n) i log.now }
+// Whether the heading of a correction stands in front. Most lines are told from one by their letter.
+fn heading_stands(bytes: &[u8], n: usize) -> bool
+    requires { n < 1000 }
+    ensures { result ≡ whole (heading n) bytes.now }
 {
-    byte_at(log, i) == b'C' && reach_heading(log, i, n) == heading_width(n)
+    byte_at(bytes, 0) == b'C' && bytes.starts_with(heading_text(n, &mut [0; 6]))
 }
 
-// Whether bytes may stand in a record. It looks at them all: the compiler takes many at once where no byte ends the loop.
+// Whether bytes may stand in a record. It looks at them all, as `all` would not: the compiler takes many at once where no byte ends the
+// loop.
 fn all_printable(bytes: &[u8]) -> bool
     ensures { result ≡ list_all (allows printable) bytes.now }
 {
@@ -107,37 +108,36 @@ fn all_printable(bytes: &[u8]) -> bool
     fine
 }
 
-// Whether a D or A line stands at an offset.
-fn change_stands(log: &[u8], i: usize, letter: u8) -> bool
-    requires { (i < 70000) × (0 < letter) }
-    ensures { result ≡ whole_at (change letter) i log.now }
+// Whether a D or A line stands in front.
+fn change_stands(bytes: &[u8], letter: u8) -> bool
+    ensures { result ≡ whole (change letter) bytes.now }
 {
-    let Some([first, tab, record @ .., end]) = log.get(i..i + CHANGE_WIDTH) else {
+    let Some([first, tab, record @ .., end]) = bytes.get(..CHANGE_WIDTH) else {
         return false;
     };
     (*first, *tab, *end) == (letter, b'\t', b'\n') && all_printable(record)
 }
 
-// The line that stands at an offset, where so many corrections have begun; or else the first byte, counted from 1, from which none can
-// be completed.
-pub(crate) fn line_at(log: &[u8], i: usize, begun: usize) -> Result<Line, usize>
-    requires { (i < 70000) × (begun ≤ 200) }
-    ensures { result ≡ line_at begun i log.now }
+// The line that stands in front, where so many corrections have begun; or else the first byte, counted from 1, from which none can be
+// completed.
+pub(crate) fn line_of(bytes: &[u8], begun: usize) -> Result<Line, usize>
+    requires { begun ≤ 200 }
+    ensures { result ≡ line_of begun bytes.now }
 {
-    if heading_stands(log, i, begun + 1) {
+    if heading_stands(bytes, begun + 1) {
         return Ok(Line::Heading);
     }
     if begun == 0 {
-        return Err(reach_heading(log, i, begun + 1) + 1);
+        return Err(reach_heading(bytes, begun + 1) + 1);
     }
-    if change_stands(log, i, b'D') {
+    if change_stands(bytes, b'D') {
         return Ok(Line::TakenOut);
     }
-    if change_stands(log, i, b'A') {
+    if change_stands(bytes, b'A') {
         return Ok(Line::PutIn);
     }
-    let headed = reach_heading(log, i, begun + 1);
-    let taken = reach_change(log, i, b'D');
-    let put = reach_change(log, i, b'A');
+    let headed = reach_heading(bytes, begun + 1);
+    let taken = reach_change(bytes, b'D');
+    let put = reach_change(bytes, b'A');
     Err(headed.max(taken.max(put)) + 1)
 }

@@ -7,6 +7,6 @@ use Rattle.corrections.proofs.ReachLaws.{change_first}
 use Rattle.corrections.proofs.lines.reach_change.Goals as goal
 
 pub returns : goal.returns
-returns c = c.unwrap_or.ensures ∙ change_first _ _ _ c.requires.1 c.find.result
+returns c = c.unwrap_or.ensures ∙ change_first _ _ c.requires c.find.result
     (first_from_Range _ _ _ c.find.result _ _
     c.find.ensures.ran (λ k q h. search (rules, tests)) (λ k q h. search (rules, tests)))
