@@ -1,7 +1,8 @@
 -- By the invariant: the number of records that are left. Assumes nothing.
-use mathlib.Core.Path.{sym, ◌∙◌}
+use mathlib.Core.Path.{◌≡◌, sym, ◌∙◌}
 use native.Mathlib.Nat.{zero-add}
 use Rattle.routes.proofs.SourceLaws.{left_start, left_stop, left_next, left_end, one_more, none_left}
+use native.Mathlib.Omega.{arith}
 use borrow.Author.Rules.{rules}
 use Rattle.routes.proofs.count_records.Goals as goal
 
@@ -15,4 +16,4 @@ pub loop-i-preserved : goal.loop-i-preserved
 loop-i-preserved c = (search rules, c.loop-i.invariant.1 ∙ one_more _ _ _ (left_next _ _ c.loop-i-test.true c.byte_at.ensures c.if-byte_at-ne10.false))
 
 pub returns : goal.returns
-returns c = none_left _ _ c.loop-i.invariant.1 (left_end _ _ c.loop-i-test.false)
+returns c = let e : 480 ≡ c.loop-i.i = omega arith in e ∙ none_left _ _ c.loop-i.invariant.1 (left_end _ _ c.loop-i-test.false)

@@ -1,8 +1,9 @@
 -- By the invariant: the lines that are left give the answer. Assumes nothing.
-use mathlib.Core.Path.{◌∙◌}
+use mathlib.Core.Path.{◌≡◌, ◌∙◌}
 use native.Mathlib.Nat.{zero-add}
 use Rattle.slices.proofs.SearchLaws.{starts, finds, goes_on, ends}
 use Rattle.routes.proofs.TableLaws.{by_type, other_subsection, nine_lines}
+use native.Mathlib.Omega.{arith}
 use borrow.Author.Rules.{rules}
 use Rattle.routes.proofs.pairs.kind_among.Goals as goal
 use Rattle.routes.proofs.pairs.kind_among.Goals.{then-byte_at-subsection+else-route_type-has, else-byte_at-subsection}
@@ -29,4 +30,4 @@ loop-i-preserved c = let inv = c.loop-i.invariant in (
 )
 
 pub returns : goal.returns
-returns c = ends _ 0 _ 0 _ c.loop-i.invariant.3 (rw nine_lines c.loop-i-test.false) ∙ zero-add _
+returns c = let e : 9 ≡ c.loop-i.i = omega arith in e ∙ ends _ 0 _ 0 _ c.loop-i.invariant.3 (rw nine_lines c.loop-i-test.false) ∙ zero-add _
