@@ -1,6 +1,6 @@
 // What comes behind a record: whether it is the last leg of its route. What is looked at here is not judged. Assumes nothing of the caller.
-ghost use Rattle.std.specs.Prelude.{◌≡◌, map};
-ghost use Rattle.routes.specs.Sources.{record_at};
+ghost use Rattle.std.specs.Prelude.{◌≡◌};
+ghost use Rattle.routes.specs.Sources.{records_at};
 ghost use Rattle.routes.specs.Stages.{columns_to};
 ghost use Rattle.routes.specs.Walk.{followed, ends_route};
 
@@ -11,7 +11,7 @@ use slices::same;
 // Whether a primary of the record's route comes among the records behind it, before one of another route. Continuations of the route are
 // looked past.
 fn followed<'a>(texts: Texts<'a>, behind: &[u32], rec: &[u8]) -> bool
-    ensures { result ≡ followed (columns_to 25 rec.now) (map (record_at texts.entry.frozen.now texts.entry.log.now) behind.now) }
+    ensures { result ≡ followed (columns_to 25 rec.now) (records_at texts.entry.frozen.now texts.entry.log.now behind.now) }
 {
     for &source in behind {
         let next = texts.record(source);
@@ -29,7 +29,7 @@ fn followed<'a>(texts: Texts<'a>, behind: &[u32], rec: &[u8]) -> bool
 // Whether the record is the last leg of its route, where the records of these sources come behind it.
 #[tactic(auto, unfolding(crate::specs::Walk::ends_route))]
 pub(crate) fn ends_route<'a>(texts: Texts<'a>, behind: &[u32], rec: &[u8]) -> bool
-    ensures { result ≡ ends_route rec.now (map (record_at texts.entry.frozen.now texts.entry.log.now) behind.now) }
+    ensures { result ≡ ends_route rec.now (records_at texts.entry.frozen.now texts.entry.log.now behind.now) }
 {
     match columns::kind_of(rec) {
         Kind::Primary => !followed(texts, behind, rec),

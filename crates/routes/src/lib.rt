@@ -10,17 +10,17 @@ mod record;
 mod stages;
 mod texts;
 
-ghost use Rattle.std.specs.Prelude.{◌≡◌, ◌≤◌, length, map, take, drop};
-ghost use Rattle.routes.specs.Known.{judged_knowing, walk_knowing, walked_knowing};
-ghost use Rattle.routes.specs.Sources.{log_source, record_at, sources_in, records_in, sources_to, records, sources_of};
-ghost use Rattle.routes.specs.Stages.{seen, nothing};
-ghost use Rattle.routes.specs.Walk.{judged_behind, finished, walked};
+ghost use Rattle.std.specs.Prelude.{◌≡◌, ◌≤◌, length, take, drop};
+ghost use Rattle.routes.specs.Known.{walk_knowing, walked_knowing};
+ghost use Rattle.routes.specs.Sources.{log_source, record_at, records_at, sources_in, records_in, sources_to, records, sources_of};
+ghost use Rattle.routes.specs.Stages.{nothing};
+ghost use Rattle.routes.specs.Walk.{finished, walked};
 ghost use Rattle.routes.specs.Files.{tail_stage, file_verdict};
 
 use ahead::ends_route;
 use known::{NOTHING_KNOWN, knows};
 use refusals::{MOST_RECORDS, Refusal, Verdict};
-use stages::{Seen, awaits, ending_stage};
+use stages::{Seen, awaits};
 pub use texts::Texts;
 
 // Where the key of a route ends, and the head that a continuation shares with its primary; the column of the continuation number.
@@ -42,7 +42,7 @@ const FIRST_OF_LOG: u32 = 1000000;
 
 // Where records lie, at most 480 of them; zeros past the count. No slice and no list that grows in place of the two fields: this is the public
 // type that callers fill and read, and tests read its zeros.
-#[derive(Clone, Copy)]
+#[derive(Clone, Copy, Debug, PartialEq, Eq)]
 pub struct Sources {
     pub count: usize,
     pub at: [u32; MOST_RECORDS],
@@ -79,7 +79,7 @@ pub fn record_at<'a>(frozen: &'a [u8], log: &'a [u8], source: u32) -> &'a [u8]
 
 // How many records a file has: its leading pieces of 133 bytes that end in a line feed, at most 480.
 fn count_records(file: &[u8]) -> usize
-    ensures { result ≡ length (records file.now) }
+    ensures { (result ≡ length (records file.now)) × (result ≤ 480) }
 {
     for i in 0..MOST_RECORDS {
         if slices::byte_at(file, i * LINE_WIDTH + RECORD_WIDTH) != b'\n' {
@@ -94,55 +94,27 @@ fn sources_to(n: usize) -> Sources
     requires { n ≤ 480 }
     ensures { result ≡ sources_to n }
 {
-    let mut found = Sources {
-        count: 0,
-        at: [0; MOST_RECORDS],
-    };
+    let mut at = [0; MOST_RECORDS];
     for i in 0..n {
-        found.at[i] = (i * LINE_WIDTH) as u32;
-        found.count = i + 1;
+        at[i] = (i * LINE_WIDTH) as u32;
     }
-    found
+    Sources { count: n, at }
 }
 
 // The sources of a file's own records: the leading ones that end in a line feed.
 pub fn sources_of(file: &[u8]) -> Sources
     ensures { result ≡ sources_of file.now }
 {
-    let count = count_records(file);
-    sources_to(count)
-}
-
-// Judges one record by what stands before it, and by whether it is the last leg of its route: 6, 7, 8.
-#[tactic(auto, unfolding(crate::specs::Walk::judged_behind, crate::specs::InTurn::in_turn))]
-fn judge_behind<'a>(before: Seen<'a>, rec: &[u8], place: usize, last: bool) -> Verdict
-    ensures { result ≡ judged_behind (seen before.entry.primary.now before.entry.before.now) place last rec.now }
-{
-    let kind = columns::kind_of(rec);
-    before.continuation_stage(kind, rec, place)?;
-    before.order_stage(kind, rec, place)?;
-    before.leg_stage(kind, rec, place)?;
-    ending_stage(last, rec, place)
-}
-
-// Judges one record after what stands before it: 3, 4, 5 by itself, unless it is known to be legal, then 6, 7, 8.
-#[tactic(auto, unfolding(crate::specs::Known::judged_knowing, crate::specs::Walk::judged_next, crate::specs::Walk::judged_behind, crate::specs::InTurn::in_turn))]
-fn judge_next<'a>(before: Seen<'a>, known: bool, rec: &[u8], place: usize, last: bool) -> Verdict
-    ensures { result ≡ judged_knowing known (seen before.entry.primary.now before.entry.before.now) place last rec.now }
-{
-    if !known {
-        leg::judge(rec, place)?;
-    }
-    judge_behind(before, rec, place, last)
+    sources_to(count_records(file))
 }
 
 // Judges the records of the first n of some sources in sequence, counted from 1. Those of the others are looked at, and not judged.
 // Records that a table knows are not judged by themselves.
 fn walk<'a>(texts: Texts<'a>, known: &[u32], sources: &[u32], n: usize) -> Verdict
     requires { n ≤ length sources.now }
-    ensures { result ≡ walk_knowing known.now texts.entry.frozen.now texts.entry.log.now (map (record_at texts.entry.frozen.now texts.entry.log.now) (drop n sources.now)) nothing 1 (take n sources.now) }
+    ensures { result ≡ walk_knowing known.now texts.entry.frozen.now texts.entry.log.now (records_at texts.entry.frozen.now texts.entry.log.now (drop n sources.now)) nothing 1 (take n sources.now) }
 {
-    let mut before = Seen {
+    let mut seen = Seen {
         primary: &[],
         before: &[],
     };
@@ -150,8 +122,8 @@ fn walk<'a>(texts: Texts<'a>, known: &[u32], sources: &[u32], n: usize) -> Verdi
         let source = sources[i];
         let rec = texts.record(source);
         let last = ends_route(texts, &sources[i + 1..], rec);
-        judge_next(before, knows(known, source), rec, i + 1, last)?;
-        before = before.after(rec);
+        seen.judge_next(knows(known, source), rec, i + 1, last)?;
+        seen = seen.after(rec);
     }
     Ok(())
 }
@@ -159,7 +131,7 @@ fn walk<'a>(texts: Texts<'a>, known: &[u32], sources: &[u32], n: usize) -> Verdi
 // Whether a continuation is missing past the last record of some sources.
 #[tactic(auto, unfolding(crate::specs::Walk::finished, crate::specs::Walk::last, crate::specs::Stages::awaits))]
 fn finish<'a>(texts: Texts<'a>, sources: &[u32]) -> Verdict
-    ensures { result ≡ finished (map (record_at texts.entry.frozen.now texts.entry.log.now) sources.now) }
+    ensures { result ≡ finished (records_at texts.entry.frozen.now texts.entry.log.now sources.now) }
 {
     let Some(&source) = sources.last() else {
         return Ok(());
@@ -219,6 +191,7 @@ fn judge_tail(file: &[u8], n: usize) -> Verdict
 
 // Judges a file: 2 for its size; then record by record 1, 3, 4, 5, 6, 7, 8; a continuation that is missing past the last record. A piece of
 // 133 bytes behind the records, which does not end in a line feed, is looked at for the last leg of a route.
+#[tactic(auto, using(crate::proofs::FileLaws::too_long_lem))]
 pub fn check(file: &[u8]) -> Verdict
     ensures { result ≡ file_verdict file.now }
 {

@@ -23,7 +23,7 @@ const MOST_TYPES: usize = KIND_WIDTH - 1;
 // AF CA CD CF CI CR DF FA FC FD FM HA HF HM IF PI RF TF VA VD VI VM VR.
 
 // A line for each leg, a cell for each that may come behind it.
-pub(crate) const PAIRS: [u8; 529] = *b"\
+const PAIRS: [u8; 529] = *b"\
     ++++++++++++++-++++++++\
     +++++++-----------+++++\
     +++++++-----------+++++\

@@ -1,4 +1,5 @@
-// The stages that look at what stands around a record: 6 continuations, 7 order, 8 legs. Assumes nothing of the caller.
+// One record judged after what stands before it, by the stages that look at what stands around it: 6 continuations, 7 order, 8 legs. Assumes
+// nothing of the caller.
 ghost use Rattle.std.specs.Prelude.{◌≡◌, cond, eqb, Option, None, Some};
 ghost use Rattle.routes.specs.Stages.{
   seen,
@@ -15,7 +16,8 @@ ghost use Rattle.routes.specs.Stages.{
   leg_stage,
   ending_stage,
 };
-ghost use Rattle.routes.specs.Walk.{primary_after};
+ghost use Rattle.routes.specs.Known.{judged_knowing};
+ghost use Rattle.routes.specs.Walk.{primary_after, judged_behind};
 
 use crate::pairs::{Leg, pair};
 use crate::{HEAD, KEY, NUMBER};
@@ -105,7 +107,7 @@ impl<'a> Seen<'a> {
     }
 
     // Stage 6.
-    pub(crate) fn continuation_stage(self, kind: Kind, rec: &[u8], place: usize) -> Verdict
+    fn continuation_stage(self, kind: Kind, rec: &[u8], place: usize) -> Verdict
         ensures { result ≡ continuation_stage 38 39 kind (seen self.entry.primary.now self.entry.before.now) place rec.now }
     {
         match self.continuation_column(kind, rec) {
@@ -128,7 +130,7 @@ impl<'a> Seen<'a> {
 
     // Stage 7: the route has risen since the last primary, or the sequence number where it is the same.
     #[tactic(auto, unfolding(crate::specs::Stages::order_stage))]
-    pub(crate) fn order_stage(self, kind: Kind, rec: &[u8], place: usize) -> Verdict
+    fn order_stage(self, kind: Kind, rec: &[u8], place: usize) -> Verdict
         ensures { result ≡ order_stage 25 kind self.entry.primary.now place rec.now (sequence_stage self.entry.primary.now place rec.now) }
     {
         match kind {
@@ -155,7 +157,7 @@ impl<'a> Seen<'a> {
 
     // Stage 8, of a primary and what stands before it.
     #[tactic(auto, unfolding(crate::specs::Stages::leg_stage))]
-    pub(crate) fn leg_stage(self, kind: Kind, rec: &[u8], place: usize) -> Verdict
+    fn leg_stage(self, kind: Kind, rec: &[u8], place: usize) -> Verdict
         ensures { result ≡ leg_stage 25 kind self.entry.primary.now place rec.now }
     {
         match kind {
@@ -169,11 +171,34 @@ impl<'a> Seen<'a> {
             Kind::Continuation => Ok(()),
         }
     }
+
+    // Judges one record by what stands before it, and by whether it is the last leg of its route: 6, 7, 8.
+    #[tactic(auto, unfolding(crate::specs::Walk::judged_behind, crate::specs::InTurn::in_turn))]
+    fn judge_behind(self, rec: &[u8], place: usize, last: bool) -> Verdict
+        ensures { result ≡ judged_behind (seen self.entry.primary.now self.entry.before.now) place last rec.now }
+    {
+        let kind = columns::kind_of(rec);
+        self.continuation_stage(kind, rec, place)?;
+        self.order_stage(kind, rec, place)?;
+        self.leg_stage(kind, rec, place)?;
+        ending_stage(last, rec, place)
+    }
+
+    // Judges one record after what stands before it: 3, 4, 5 by itself, unless it is known to be legal, then 6, 7, 8.
+    #[tactic(auto, unfolding(crate::specs::Known::judged_knowing, crate::specs::Walk::judged_next, crate::specs::Walk::judged_behind, crate::specs::InTurn::in_turn))]
+    pub(crate) fn judge_next(self, known: bool, rec: &[u8], place: usize, last: bool) -> Verdict
+        ensures { result ≡ judged_knowing known (seen self.entry.primary.now self.entry.before.now) place last rec.now }
+    {
+        if !known {
+            leg::judge(rec, place)?;
+        }
+        self.judge_behind(rec, place, last)
+    }
 }
 
 // Stage 8, of the last leg of a route.
 #[tactic(auto, unfolding(crate::specs::Stages::ending_stage))]
-pub(crate) fn ending_stage(last: bool, rec: &[u8], place: usize) -> Verdict
+fn ending_stage(last: bool, rec: &[u8], place: usize) -> Verdict
     ensures { result ≡ ending_stage last place rec.now }
 {
     if last && !Leg::of(rec).may_end() {

@@ -7,4 +7,4 @@ use Rattle.routes.proofs.SourceLaws.{records_left}
 use Rattle.routes.proofs.count_records.Given as goal
 
 abbrev pub invariant-loop-i : goal.invariant-loop-i
-invariant-loop-i l = (l.i ≤ 480) × (length (records l.file) ≡ l.i + records_left l.file l.i)
+invariant-loop-i l = length (records l.file) ≡ l.i + records_left l.file l.i

@@ -11,5 +11,4 @@ use Rattle.routes.proofs.walk.Given as goal
 
 abbrev pub invariant-loop-i : goal.invariant-loop-i
 invariant-loop-i l =
-    (l.n ≤ length l.sources)
-    × (walk_knowing l.known l.texts.frozen.now l.texts.log.now (map (record_at l.texts.frozen.now l.texts.log.now) (drop l.n l.sources)) nothing 1 (take l.n l.sources) ≡ walking l.known l.texts.frozen.now l.texts.log.now l.sources l.n l.before.primary.now l.before.before.now l.i)
+    walk_knowing l.known l.texts.frozen.now l.texts.log.now (map (record_at l.texts.frozen.now l.texts.log.now) (drop l.n l.sources)) nothing 1 (take l.n l.sources) ≡ walking l.known l.texts.frozen.now l.texts.log.now l.sources l.n l.seen.primary.now l.seen.before.now l.i

@@ -8,4 +8,4 @@ use Rattle.routes.proofs.pairs.kind_among.Given as goal
 
 abbrev pub invariant-loop-i : goal.invariant-loop-i
 invariant-loop-i l =
-    (l.subsection ≡ byte_in 13 l.rec) × (l.route_type ≡ byte_in 20 l.rec) × (l.i ≤ 9) × Come (of_line l.kinds (byte_in 13 l.rec) (byte_in 20 l.rec)) 0 kind_lines 0 l.i
+    Come (of_line l.kinds (byte_in 13 l.rec) (byte_in 20 l.rec)) 0 kind_lines 0 l.i

@@ -14,15 +14,15 @@ unfolding found
 returns-then-same c = ap found (sym ((difference_iff 1 _ _ (length_part _ _ _ ∙ sym (length_part _ _ _)) (omega arith)).1 ((equal_iff _ _).0 (sym c.same.ensures ∙ c.if-same.true))))
 
 pub loop-k-init : goal.loop-k-init
-loop-k-init c = (search rules, differing_start _ _ _)
+loop-k-init c = differing_start _ _ _
 
 pub returns-then-byte_at : goal.returns-then-byte_at
 returns-then-byte_at c =
-    found_one _ ∙ ap found (sym (c.loop-k.invariant.1 ∙ differing_found _ _ _ _ c.loop-k-test.true c.byte_at.ensures c.byte_at-in-loop-k.ensures c.if-byte_at.true))
+    found_one _ ∙ ap found (sym (c.loop-k.invariant ∙ differing_found _ _ _ _ c.loop-k-test.true c.byte_at.ensures c.byte_at-in-loop-k.ensures c.if-byte_at.true))
 
 pub loop-k-preserved : goal.loop-k-preserved
-loop-k-preserved c = (search rules, c.loop-k.invariant.1 ∙ differing_next _ _ _ _ c.loop-k-test.true c.byte_at.ensures c.byte_at-in-loop-k.ensures c.if-byte_at.false)
+loop-k-preserved c = c.loop-k.invariant ∙ differing_next _ _ _ _ c.loop-k-test.true c.byte_at.ensures c.byte_at-in-loop-k.ensures c.if-byte_at.false
 
 pub returns : goal.returns
 unfolding found
-returns c = ap found (sym (c.loop-k.invariant.1 ∙ differing_end _ _ _ _ c.loop-k-test.false))
+returns c = ap found (sym (c.loop-k.invariant ∙ differing_end _ _ _ _ c.loop-k-test.false))

@@ -6,4 +6,4 @@ use mathlib.Core.Path.{◌≡◌}
 use Rattle.routes.proofs.stages.first_difference.Given as goal
 
 abbrev pub invariant-loop-k : goal.invariant-loop-k
-invariant-loop-k l = (l.k ≤ l.n) × (first_difference 1 (columns_to l.n l.a) (columns_to l.n l.b) ≡ differing l.a l.b l.n l.k)
+invariant-loop-k l = first_difference 1 (columns_to l.n l.a) (columns_to l.n l.b) ≡ differing l.a l.b l.n l.k
