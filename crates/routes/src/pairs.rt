@@ -96,10 +96,11 @@ fn kind_among(kinds: &[u8], rec: &[u8]) -> usize
     let route_type = byte_at(rec, ROUTE_TYPE - 1);
     for i in 0..KIND_COUNT {
         let at = i * KIND_WIDTH;
-        if byte_at(kinds, at) == subsection {
-            if (route_type != b' ') & has(kinds, at + 1, MOST_TYPES, route_type) {
-                return i;
-            }
+        if byte_at(kinds, at) == subsection
+            && route_type != b' '
+            && has(kinds, at + 1, MOST_TYPES, route_type)
+        {
+            return i;
         }
     }
     KIND_COUNT

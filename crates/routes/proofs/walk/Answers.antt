@@ -19,8 +19,8 @@ returns-in_err-judge_next c =
 pub loop-i-preserved : goal.loop-i-preserved
 loop-i-preserved c = let inv = c.loop-i.invariant in
     inv
-      ∙ walking_next _ _ _ _ _ _ _ _ c.loop-i-test.true c.requires c.knows.ensures c.record-rec.ensures c.ends_route-last.ensures c.judge_next.ensures
-      c.in_ok-judge_next.was c.after-seen.ensures.primary c.after-seen.ensures.before
+    ∙ walking_next _ _ _ _ _ _ _ _ c.loop-i-test.true c.requires c.knows.ensures c.record-rec.ensures c.ends_route-last.ensures c.judge_next.ensures
+    c.in_ok-judge_next.was c.after-seen.ensures.primary c.after-seen.ensures.before
 
 pub returns : goal.returns
 returns c = sym (c.loop-i.invariant ∙ walking_end _ _ _ _ _ _ _ _ (omega arith))
