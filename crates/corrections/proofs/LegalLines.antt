@@ -1,14 +1,15 @@
 -- Legal lines: none of them begins another, so that one at most stands in front of some bytes, and it is the line that is found there.
 -- Assumes nothing.
+use Rattle.std.specs.Prelude.{Result, Ok, Err}
 use mathlib.Core.Path.{◌≡◌, refl, sym, ap, subst, ◌∙◌}
 use mathlib.Core.List.{List, [], ◌++◌, append_assoc, append-nil}
-use Prim.Native.Nat.{ℕ, suc, ◌+◌, ◌-◌, ◌≤◌, ◌<◌}
+use Prim.Native.Nat.{ℕ, ◌+◌, ◌-◌, ◌≤◌, ◌<◌}
 use native.Mathlib.Omega.{arith}
 use native.Mathlib.Decide.{dec_le}
 use lib.ListN.{length, take, drop, length-append, take-append-drop}
 use lib.Seq.{drop_at, length-take-le, take-append_seam, take-append-le, take-append-add}
 use Rattle.corrections.specs.declared.lines.Line.{Line}
-use Rattle.corrections.specs.declared.lines.Line.TheVariants.{Heading, TakenOut, PutIn, Stopped}
+use Rattle.corrections.specs.declared.lines.Line.TheVariants.{Heading, TakenOut, PutIn}
 use Rattle.corrections.specs.Lines.{heading, forms, longest, line_of}
 use Rattle.corrections.specs.Reading.{begun_after, width_of}
 use Rattle.corrections.specs.Text.{takes_out, puts_in, LegalLine, begins, changes, Complete, Begins}
@@ -20,45 +21,43 @@ use Rattle.corrections.proofs.Turns.{Found, headed, taken, put, stopped, found}
 
 -- ---- the line that is found
 
--- the column at which a line stops, from 1 on, and 0 of a complete line
-column_of : Line → ℕ
-column_of Heading = 0
-column_of TakenOut = 0
-column_of PutIn = 0
-column_of (Stopped column) = suc column
+same_line : {l m : Line} → ◌≡◌ {A = Result Line ℕ} (Ok l) (Ok m) → l ≡ m
+same_line e = cc
 
-pub same_column : {n m : ℕ} → Stopped n ≡ Stopped m → n ≡ m
-unfolding column_of
-same_column {n} {m} e = let z : suc n ≡ suc m = ap column_of e in omega arith
+pub same_column : {n m : ℕ} → ◌≡◌ {A = Result Line ℕ} (Err n) (Err m) → n ≡ m
+same_column e = cc
 
 -- what is found of some bytes, where a line of so many of them stands in front
 record Stands (begun : ℕ) (bs : List ℕ) (width after : ℕ) : Type 0 where
-  whole : column_of (line_of begun bs) ≡ 0
-  wide : width_of begun (line_of begun bs) ≡ width
-  begun_then : begun_after begun (line_of begun bs) ≡ after
+  line : Line
+  is : line_of begun bs ≡ Ok line
+  wide : width_of begun line ≡ width
+  begun_then : begun_after begun line ≡ after
 
 stands : {begun : ℕ} {l : List ℕ} {after : ℕ} → LegalLine begun l after → (rest : List ℕ) → Stands begun (l ++ rest) (length l) after
-unfolding column_of line_for
+unfolding line_for
 stands {begun} begins rest =
-    let e = heading_found begun rest in record { whole = rw e; wide = rw e (sym (heading_length (begun + 1))); begun_then = rw e }
+    record { line = Heading; is = heading_found begun rest; wide = sym (heading_length (begun + 1)); begun_then = refl }
 stands {begun} (changes b (takes_out r) s) rest =
-    let e = change_found begun rest b (takes_out r) s in record { whole = rw e; wide = rw e (sym (change_length (takes_out r) s)); begun_then = rw e }
+    record { line = TakenOut; is = change_found begun rest b (takes_out r) s; wide = sym (change_length (takes_out r) s); begun_then = refl }
 stands {begun} (changes b (puts_in r) s) rest =
-    let e = change_found begun rest b (puts_in r) s in record { whole = rw e; wide = rw e (sym (change_length (puts_in r) s)); begun_then = rw e }
+    record { line = PutIn; is = change_found begun rest b (puts_in r) s; wide = sym (change_length (puts_in r) s); begun_then = refl }
 
 pub not_stopped : {begun : ℕ} {l : List ℕ} {after column : ℕ} → LegalLine begun l after → (rest : List ℕ)
-    → line_of begun (l ++ rest) ≡ Stopped column → ⊥
-unfolding column_of
-not_stopped {column = column} k rest e = let z : suc column ≡ 0 = sym (ap column_of e) ∙ (stands k rest).whole in omega arith
+    → line_of begun (l ++ rest) ≡ Err column → ⊥
+not_stopped k rest e = let q = (stands k rest).is in cc
 
 -- two of them in front of the same bytes: they are as long, and the same stands behind them
 module _ {begun : ℕ} {l m : List ℕ} {after then : ℕ} (k : LegalLine begun l after) (j : LegalLine begun m then) (rest others : List ℕ)
     (e : l ++ rest ≡ m ++ others) where
+  one_line : (stands k rest).line ≡ (stands j others).line
+  one_line = same_line (sym (stands k rest).is ∙ ap (line_of begun) e ∙ (stands j others).is)
+
   same_width : length l ≡ length m
-  same_width = sym (stands k rest).wide ∙ ap (λ (bs : List ℕ). width_of begun (line_of begun bs)) e ∙ (stands j others).wide
+  same_width = sym (stands k rest).wide ∙ ap (width_of begun) one_line ∙ (stands j others).wide
 
   pub same_after : after ≡ then
-  same_after = sym (stands k rest).begun_then ∙ ap (λ (bs : List ℕ). begun_after begun (line_of begun bs)) e ∙ (stands j others).begun_then
+  same_after = sym (stands k rest).begun_then ∙ ap (begun_after begun) one_line ∙ (stands j others).begun_then
 
   pub same_rest : rest ≡ others
   same_rest = sym (drop_at l rest (length l) refl) ∙ ap (λ (bs : List ℕ). drop (length l) bs) e ∙ drop_at m others (length l) (sym same_width)
@@ -107,29 +106,29 @@ module _ {begun : ℕ} {l : List ℕ} {after : ℕ} (k : LegalLine begun l after
 -- a complete legal line, or none
 pub data InFront (begun : ℕ) (bs : List ℕ) : Type 0 where
   complete : {l : List ℕ} {after : ℕ} (rest : List ℕ) → LegalLine begun l after → bs ≡ l ++ rest → InFront begun bs
-  incomplete : line_of begun bs ≡ Stopped (longest (forms begun) bs + 1) → InFront begun bs
+  incomplete : line_of begun bs ≡ Err (longest (forms begun) bs + 1) → InFront begun bs
 
 pub front_of : (begun : ℕ) (bs : List ℕ) → InFront begun bs
 front_of begun bs = by (line_of begun bs) (found begun bs) refl
   where
-    by : (l : Line) → Found begun bs l → line_of begun bs ≡ l → InFront begun bs
-    by Heading (headed h) e = complete (drop (length (heading (begun + 1))) bs) begins (heading_front (begun + 1) bs h)
-    by TakenOut (taken b h) e = let w = change_front 68 bs h in complete (drop 135 bs) (changes b (takes_out w.0) (w.2, w.3)) w.1
-    by PutIn (put b h) e = let w = change_front 65 bs h in complete (drop 135 bs) (changes b (puts_in w.0) (w.2, w.3)) w.1
+    by : (l : Result Line ℕ) → Found begun bs l → line_of begun bs ≡ l → InFront begun bs
+    by _ (headed h) e = complete (drop (length (heading (begun + 1))) bs) begins (heading_front (begun + 1) bs h)
+    by _ (taken b h) e = let w = change_front 68 bs h in complete (drop 135 bs) (changes b (takes_out w.0) (w.2, w.3)) w.1
+    by _ (put b h) e = let w = change_front 65 bs h in complete (drop 135 bs) (changes b (puts_in w.0) (w.2, w.3)) w.1
     by _ (stopped h g) e = incomplete e
 
 -- bytes that go on as long as they can and are no line stop behind the last of them
 pub stops_at : (begun : ℕ) (bs : List ℕ) (n : ℕ) → n ≤ length bs → Begins begun (take n bs) → (Complete begun (take n bs) → ⊥)
-    → (n < length bs → Begins begun (take (n + 1) bs) → ⊥) → line_of begun bs ≡ Stopped (n + 1)
+    → (n < length bs → Begins begun (take (n + 1) bs) → ⊥) → line_of begun bs ≡ Err (n + 1)
 stops_at begun bs n h w bare halt = by (front_of begun bs)
   where
     last : Dec (n + 1 ≤ longest (forms begun) bs) → longest (forms begun) bs ≡ n
     last (yes g) = absurd (halt (omega (arith, longest_within begun bs)) (longest_begins begun bs (n + 1) g))
     last (no g) = omega (arith, begins_longest begun bs n h w)
 
-    by : InFront begun bs → line_of begun bs ≡ Stopped (n + 1)
+    by : InFront begun bs → line_of begun bs ≡ Err (n + 1)
     by (complete rest k e) =
         absurd (bare (subst (λ (x : List ℕ). Complete begun (take n x)) (sym e)
         (whole_line k rest n (rw e at h) (subst (λ (x : List ℕ). Begins begun (take n x)) e w)
         (subst (λ (x : List ℕ). n < length x → Begins begun (take (n + 1) x) → ⊥) e halt))))
-    by (incomplete e) = e ∙ ap (λ (i : ℕ). Stopped (i + 1)) (last (dec_le (n + 1) (longest (forms begun) bs)))
+    by (incomplete e) = e ∙ ap (λ (i : ℕ). Err (i + 1)) (last (dec_le (n + 1) (longest (forms begun) bs)))

@@ -1,5 +1,6 @@
 -- Reading a log line by line refuses what goes past a limit and what goes wrong before that, and nothing else.
 -- Assumes nothing.
+use Rattle.std.specs.Prelude.{Ok, Err}
 use mathlib.Core.Path.{◌≡◌, refl, sym, ap, subst, ◌∙◌}
 use mathlib.Core.Logic.{◌⊎◌, inl, inr, ⊎_elim}
 use mathlib.Core.List.{List, [], ◌∷◌, ◌++◌}
@@ -13,7 +14,7 @@ use borrow.Author.Tests.{eq-eqb, ne_eqb, le-ltb}
 use Rattle.refusals.specs.Table.{log_line, Refused}
 use Rattle.refusals.specs.declared.Refusal.{Refusal}
 use Rattle.corrections.specs.declared.lines.Line.{Line}
-use Rattle.corrections.specs.declared.lines.Line.TheVariants.{Heading, PutIn, Stopped}
+use Rattle.corrections.specs.declared.lines.Line.TheVariants.{Heading, PutIn}
 use Rattle.corrections.specs.Lines.{heading, forms, longest, line_of}
 use Rattle.corrections.specs.Reading.{Entry, entry, refused, line_verdict, with_entries, read}
 use Rattle.corrections.specs.Text.{takes_out, puts_in, letter_of, heading_text, change_text, is_put, LegalLine, begins, changes, Complete, Begins}
@@ -27,7 +28,7 @@ use Rattle.corrections.proofs.Turns.{read_end}
 -- ---- a line and its reading
 
 -- a line that is refused
-line_refused : (most line begun room at : ℕ) (bs : List ℕ) (l : Line) {r : Refusal} → 1 ≤ length bs → line_of begun bs ≡ l
+line_refused : (most line begun room at : ℕ) (bs : List ℕ) (l : Line) {r : Refusal} → 1 ≤ length bs → line_of begun bs ≡ Ok l
     → line_verdict line begun room l ≡ Refused r → read (suc most) line begun room at bs ≡ refused r
 unfolding read
 line_refused most line begun room at bs l n e v = rw (ne_eqb (length bs) 0 (λ z. absurd (omega arith)), e, v)
@@ -85,18 +86,19 @@ past_read {room = room} {line = line} (behind {bs = bs} k n p) (suc most) at b h
 
 -- a line that goes wrong, at one of its bytes or at the log's end, stops there
 pub wrong_here : (begun : ℕ) (bs : List ℕ) (n : ℕ) → n < length bs → Begins begun (take n bs) → (Complete begun (take n bs) → ⊥)
-    → (Begins begun (take (n + 1) bs) → ⊥) → line_of begun bs ≡ Stopped (n + 1)
+    → (Begins begun (take (n + 1) bs) → ⊥) → line_of begun bs ≡ Err (n + 1)
 wrong_here begun bs n h w bare halt = stops_at begun bs n (omega arith) w bare (λ _. halt)
 
-pub wrong_end : (begun : ℕ) (bs : List ℕ) → Begins begun bs → (Complete begun bs → ⊥) → line_of begun bs ≡ Stopped (length bs + 1)
+pub wrong_end : (begun : ℕ) (bs : List ℕ) → Begins begun bs → (Complete begun bs → ⊥) → line_of begun bs ≡ Err (length bs + 1)
 wrong_end begun bs w bare =
     stops_at begun bs (length bs) (omega arith) (subst (Begins begun) (sym (take-length bs)) w)
     (λ c. bare (subst (Complete begun) (take-length bs) c)) (λ h. absurd (omega arith))
 
-stop_read : (most line begun room at : ℕ) (bs : List ℕ) (column : ℕ) → 1 ≤ length bs → length bs ≤ most → line_of begun bs ≡ Stopped column
+stop_read : (most line begun room at : ℕ) (bs : List ℕ) (column : ℕ) → 1 ≤ length bs → length bs ≤ most → line_of begun bs ≡ Err column
     → read most line begun room at bs ≡ refused (log_line line column)
+unfolding read
 stop_read zero line begun room at bs column g h e = absurd (omega arith)
-stop_read (suc most) line begun room at bs column g h e = line_refused most line begun room at bs (Stopped column) g e refl
+stop_read (suc most) line begun room at bs column g h e = rw (ne_eqb (length bs) 0 (λ z. absurd (omega arith)), e)
 
 -- a line is read where the log goes past no limit, and the log goes past none behind it
 later_read : {begun line after : ℕ} {l : List ℕ} (k : LegalLine begun l after) (bs : List ℕ) {r : Refusal} (most room at : ℕ) → begun ≤ 200
@@ -126,7 +128,7 @@ wrong_read (later {bs = bs} k g) (suc most) room at b h none =
 -- ---- what is refused goes past a limit or wrong
 
 -- a line that stops goes wrong at its column
-stopped_wrong : (begun line : ℕ) (bs : List ℕ) → 1 ≤ length bs → line_of begun bs ≡ Stopped (longest (forms begun) bs + 1)
+stopped_wrong : (begun line : ℕ) (bs : List ℕ) → 1 ≤ length bs → line_of begun bs ≡ Err (longest (forms begun) bs + 1)
     → GoesWrong begun line bs (log_line line (longest (forms begun) bs + 1))
 stopped_wrong begun line bs g e = by (dec_lt n (length bs))
   where

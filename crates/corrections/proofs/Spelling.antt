@@ -1,5 +1,6 @@
 -- What is read without a refusal is the text of corrections.
 -- Assumes nothing.
+use Rattle.std.specs.Prelude.{Result}
 use mathlib.Core.Path.{◌≡◌, refl, sym, ap, ◌∙◌}
 use mathlib.Core.Bool.{true}
 use mathlib.Core.List.{List, [], ◌∷◌, ◌++◌, append_assoc}
@@ -11,9 +12,8 @@ use borrow.Author.Tests.{eqb-true, eqb-false, ltb-true, ltb-false}
 use Rattle.slices.proofs.Cases.{split}
 use Rattle.slices.proofs.PartLaws.{no_bytes}
 use Rattle.corrections.specs.declared.lines.Line.{Line}
-use Rattle.corrections.specs.declared.lines.Line.TheVariants.{Heading, TakenOut, PutIn}
 use Rattle.corrections.specs.Lines.{heading, whole, line_of}
-use Rattle.corrections.specs.Reading.{Entry, entry, said, line_verdict, begun_after, room_after, width_of, entries_of, before, read, read_log}
+use Rattle.corrections.specs.Reading.{Entry, entry, said, line_verdict, begun_after, room_after, width_of, entries_of, before, on_line, read, read_log}
 use Rattle.corrections.specs.Text.{Change, takes_out, puts_in, change_text, heading_text, Sound, changes_text, log_text, EverySound, AllSound, is_put, puts, all_puts, LegalLog}
 use Rattle.corrections.proofs.ReachLaws.{heading_short}
 use Rattle.corrections.proofs.Turns.{Found, headed, taken, put, stopped, found}
@@ -81,22 +81,22 @@ abbrev Spells : ℕ → Type 0
 Spells most = (line begun room at : ℕ) (bs : List ℕ) (n : ℕ) (es : List Entry) → begun ≤ 200 → length bs ≤ most → read most line begun room at bs ≡ said n es
     → Spelled begun room bs n
 
-line_spelled : (most : ℕ) → Spells most → (line begun room at : ℕ) (bs : List ℕ) (n : ℕ) (es : List Entry) (l : Line) → begun ≤ 200 → Found begun bs l → length bs ≤ suc most
-    → before (line_verdict line begun room l) (entries_of begun at l)
-    (read most (line + 1) (begun_after begun l) (room_after room l) (at + width_of begun l) (drop (width_of begun l) bs)) ≡ said n es → Spelled begun room bs n
-line_spelled most ih line begun room at bs n es Heading b (headed h) k e =
+line_spelled : (most : ℕ) → Spells most → (line begun room at : ℕ) (bs : List ℕ) (n : ℕ) (es : List Entry) (l : Result Line ℕ) → begun ≤ 200 → Found begun bs l → length bs ≤ suc most
+    → on_line line l (λ (l : Line). before (line_verdict line begun room l) (entries_of begun at l)
+    (read most (line + 1) (begun_after begun l) (room_after room l) (at + width_of begun l) (drop (width_of begun l) bs))) ≡ said n es → Spelled begun room bs n
+line_spelled most ih line begun room at bs n es _ b (headed h) k e =
     split (ltb begun 200)
     (λ t. let w = said_rest [] _ n es (rw t at e) in
     heading_spelled begun room bs n h (ltb-true begun 200 t)
     (ih (line + 1) (begun + 1) room _ (drop (length (heading (begun + 1))) bs) n w.0 (omega (arith, ltb-true begun 200 t))
     (shorter bs (length (heading (begun + 1))) most (omega (arith, (heading_short (begun + 1)).0)) k) w.1))
     (λ t. absurd (not_said (rw t at e)))
-line_spelled most ih line begun room at bs n es TakenOut b (taken z h) k e =
+line_spelled most ih line begun room at bs n es _ b (taken z h) k e =
     let q = change_front 68 bs h in
     let w = said_rest (entry 68 (at + 2) begun ∷ []) _ n es e in
     change_spelled begun room bs n z (takes_out q.0) (q.2, q.3) q.1 room (omega arith)
     (ih (line + 1) begun room (at + 135) (drop 135 bs) n w.0 b (shorter bs 135 most (omega arith) k) w.1)
-line_spelled most ih line begun room at bs n es PutIn b (put z h) k e =
+line_spelled most ih line begun room at bs n es _ b (put z h) k e =
     let q = change_front 65 bs h in
     split (eqb room 0) (λ t. absurd (not_said (rw t at e)))
     (λ t. let w = said_rest (entry 65 (at + 2) begun ∷ []) _ n es (rw t at e) in

@@ -1,5 +1,6 @@
 -- The text of corrections within the limits is read whole.
 -- Assumes nothing.
+use Rattle.std.specs.Prelude.{Ok}
 use Rattle.refusals.specs.Table.{Accepted}
 use mathlib.Core.Path.{◌≡◌, refl, sym, ap, ◌∙◌}
 use mathlib.Core.Bool.{false}
@@ -44,7 +45,7 @@ lines_in [] = 0
 lines_in (c ∷ cs) = suc (length c + lines_in cs)
 
 -- a line that is found and accepted is read
-read_line : (most line begun room at : ℕ) (bs : List ℕ) (l : Line) → (length bs ≡ 0 → ⊥) → line_of begun bs ≡ l → line_verdict line begun room l ≡ Accepted
+read_line : (most line begun room at : ℕ) (bs : List ℕ) (l : Line) → (length bs ≡ 0 → ⊥) → line_of begun bs ≡ Ok l → line_verdict line begun room l ≡ Accepted
     → read (suc most) line begun room at bs
     ≡ with_entries (entries_of begun at l) (read most (line + 1) (begun_after begun l) (room_after room l) (at + width_of begun l) (drop (width_of begun l) bs))
 unfolding read
@@ -57,7 +58,7 @@ line_for (puts_in r) = PutIn
 
 -- a legal line is found, whatever stands behind it
 module _ (begun : ℕ) (rest : List ℕ) where
-  pub heading_found : line_of begun (heading_text (begun + 1) ++ rest) ≡ Heading
+  pub heading_found : line_of begun (heading_text (begun + 1) ++ rest) ≡ Ok Heading
   unfolding line_of
   heading_found = rw (fits_whole (heading (begun + 1)) (heading_text (begun + 1)) rest (fits_heading (begun + 1)))
 
@@ -70,7 +71,7 @@ module _ (begun : ℕ) (rest : List ℕ) where
   unfolding whole reach change
   not_taken r = refl
 
-  pub change_found : (begun ≡ 0 → ⊥) → (x : Change) → Sound x → line_of begun (change_text x ++ rest) ≡ line_for x
+  pub change_found : (begun ≡ 0 → ⊥) → (x : Change) → Sound x → line_of begun (change_text x ++ rest) ≡ Ok (line_for x)
   unfolding line_of line_for
   change_found b (takes_out r) s =
       rw (not_heading (takes_out r), ne_eqb begun 0 b, fits_whole (change 68) (change_text (takes_out r)) rest (fits_change (takes_out r) s))

@@ -1,20 +1,21 @@
 -- Worked vectors, by evaluation: logs beside some frozen records, and what reading them gives: the number, the place and the column of the
 -- refusal, 0, 0 and 0 where they are accepted, then the corrections and the D and A lines.
 -- Assumes nothing.
+use Rattle.std.specs.Prelude.{Result, Ok, Err}
 use mathlib.Core.Path.{◌≡◌, refl, sym, subst}
 use mathlib.Core.Logic.{◌↔◌, ⊎_elim}
 use mathlib.Core.Bool.{Bool, true, ◌&&◌}
-use mathlib.Core.List.{List, [], ◌∷◌, ◌++◌}
+use mathlib.Core.List.{List, [], ◌∷◌, ◌++◌, map}
 use Prim.Native.Nat.{ℕ, zero, suc}
 use native.Mathlib.Omega.{arith}
 use lib.Dec.{eqb}
 use lib.ListN.{replicate}
-use Rattle.refusals.specs.Table.{refusal, stated, log_line, no_room}
+use Rattle.refusals.specs.Table.{refusal, stated, log_line, no_room, Accepted, Refused}
 use Rattle.refusals.specs.declared.Refusal.{Refusal}
 use Rattle.digits.specs.Decimal.{decimal, digits_by}
 use Rattle.corrections.specs.declared.Index.{Index}
 use Rattle.corrections.specs.Lines.{heading, change, forms, reach, whole, longest, line_of}
-use Rattle.corrections.specs.Reading.{read, read_log, index_of}
+use Rattle.corrections.specs.Reading.{Entry, read, read_log, index_with, index_of}
 use Rattle.corrections.specs.Text.{GoesWrong, GoesPast}
 use Rattle.corrections.proofs.Wrong.{nine_iff, thirteen_iff, one_place, one_past, said_never_wrong}
 
@@ -38,11 +39,14 @@ past log frozen line = record { log = log; frozen = frozen; answer = refusal 13 
 reads : List ℕ → (frozen corrections lines : ℕ) → Vector
 reads log frozen corrections lines = record { log = log; frozen = frozen; answer = refusal 0 0 0; corrections = corrections; lines = lines }
 
-same : Vector → Index → Bool
-same v i =
-    let r : Refusal = stated i.verdict in
+answered : Vector → Refusal → (corrections lines : ℕ) → Bool
+answered v r corrections lines =
     eqb r.number v.answer.number && (eqb r.place v.answer.place && (eqb r.column v.answer.column
-    && (eqb i.corrections v.corrections && eqb i.count v.lines)))
+    && (eqb corrections v.corrections && eqb lines v.lines)))
+
+same : Vector → Result Index Refusal → Bool
+same v (Ok i) = answered v (stated Accepted) i.corrections i.count
+same v (Err r) = answered v (stated (Refused r)) 0 0
 
 right : List Vector → Bool
 right [] = true
@@ -122,20 +126,27 @@ worked : right (
     reads (first (C (50 ∷ []) then line 68 132 65 then line 65 132 66 then C (51 ∷ []) then end)) 0 3 2 ∷
     []
     ) ≡ true
-unfolding digits_by decimal heading change forms reach whole longest line_of read read_log index_of stops beside past reads same right C line ◌then◌ end first ones tens two_hundred
+unfolding digits_by decimal heading change forms reach whole longest line_of read read_log index_with index_of stops beside past reads answered same right C line ◌then◌ end first ones tens two_hundred
 worked = refl
 
 -- what the index holds: for each line its letter, the offset of its bytes and its correction
-held : (index_of (read_log (first (C (50 ∷ []) then line 68 132 65 then line 65 132 66 then end)) 0)).kind ≡ 68 ∷ 65 ∷ replicate 442 0
-unfolding digits_by decimal heading change forms reach whole longest line_of read read_log index_of C line ◌then◌ end first
+entries : Result Index Refusal → List Entry
+entries (Ok i) = i.entries
+entries (Err r) = []
+
+two_lines : List Entry
+two_lines = entries (index_of (read_log (first (C (50 ∷ []) then line 68 132 65 then line 65 132 66 then end)) 0))
+
+held : map (λ (e : Entry). e.letter) two_lines ≡ 68 ∷ 65 ∷ replicate 442 0
+unfolding digits_by decimal heading change forms reach whole longest line_of read read_log index_with index_of C line ◌then◌ end first entries two_lines
 held = refl
 
-lies : (index_of (read_log (first (C (50 ∷ []) then line 68 132 65 then line 65 132 66 then end)) 0)).at ≡ 10 ∷ 145 ∷ replicate 442 0
-unfolding digits_by decimal heading change forms reach whole longest line_of read read_log index_of C line ◌then◌ end first
+lies : map (λ (e : Entry). e.at) two_lines ≡ 10 ∷ 145 ∷ replicate 442 0
+unfolding digits_by decimal heading change forms reach whole longest line_of read read_log index_with index_of C line ◌then◌ end first entries two_lines
 lies = refl
 
-belongs : (index_of (read_log (first (C (50 ∷ []) then line 68 132 65 then line 65 132 66 then end)) 0)).correction ≡ 2 ∷ 2 ∷ replicate 442 0
-unfolding digits_by decimal heading change forms reach whole longest line_of read read_log index_of C line ◌then◌ end first
+belongs : map (λ (e : Entry). e.correction) two_lines ≡ 2 ∷ 2 ∷ replicate 442 0
+unfolding digits_by decimal heading change forms reach whole longest line_of read read_log index_with index_of C line ◌then◌ end first entries two_lines
 belongs = refl
 
 -- where logs go wrong: the empty one and an accepted one nowhere; one with a byte behind its line at that byte, and nowhere else

@@ -1,16 +1,18 @@
 -- Where the lines of an accepted log lie: each record within the log, each line in one of its corrections.
 -- Assumes nothing.
+use Rattle.std.specs.Prelude.{Ok}
 use mathlib.Core.Path.{◌≡◌, ap, subst, ◌∙◌}
 use mathlib.Core.List.{List, [], ◌∷◌, ◌++◌, map}
 use Prim.Native.Nat.{ℕ, suc, ◌+◌, ◌-◌, ◌*◌, ◌≤◌, ◌<◌}
 use native.Mathlib.Omega.{arith}
 use lib.Dec.{ltb}
-use lib.ListN.{length, take, length-append, length-map}
+use lib.ListN.{length, take, length-append}
 use lib.Seq.{take_at}
 use borrow.Author.Tests.{ltb-false}
 use Rattle.slices.proofs.Cases.{split}
+use Rattle.corrections.specs.declared.Index.{Index}
 use Rattle.corrections.specs.Lines.{heading}
-use Rattle.corrections.specs.Reading.{Entry, Reading, said, read, read_log, index_of}
+use Rattle.corrections.specs.Reading.{Entry, Reading, said, read, read_log, index_with, index_of}
 use Rattle.corrections.specs.Text.{Change, heading_text, changes_text, log_text, AllSound, LegalLog}
 use Rattle.corrections.proofs.TextLaws.{entries_from, entries_in, text_read}
 use Rattle.corrections.proofs.ReadBack.{heading_length, changes_length}
@@ -93,18 +95,24 @@ legal_lies log frozen l =
 
 -- ---- the index holds them
 
-module _ (n : ℕ) (es : List Entry) where
-  pub index_letters : take (length es) (index_of (said n es)).kind ≡ map (λ (e : Entry). e.letter) es
+module _ (n : ℕ) (es : List Entry) {i : Index} (e : index_of (said n es) ≡ Ok i) where
+  index_is : i ≡ index_with n es
   unfolding index_of
-  index_letters = take_at (map (λ (e : Entry). e.letter) es) _ (length es) (length-map es (λ (e : Entry). e.letter))
+  index_is = cc
 
-  pub index_offsets : take (length es) (index_of (said n es)).at ≡ map (λ (e : Entry). e.at) es
-  unfolding index_of
-  index_offsets = take_at (map (λ (e : Entry). e.at) es) _ (length es) (length-map es (λ (e : Entry). e.at))
+  -- so many of its entries as it counts are the lines
+  pub index_entries : take i.count i.entries ≡ es
+  unfolding index_with
+  index_entries = rw index_is (take_at es _ (length es) (λ _. length es))
 
-  pub index_corrections : take (length es) (index_of (said n es)).correction ≡ map (λ (e : Entry). e.correction) es
-  unfolding index_of
-  index_corrections = take_at (map (λ (e : Entry). e.correction) es) _ (length es) (length-map es (λ (e : Entry). e.correction))
+  pub index_letters : map (λ (e : Entry). e.letter) (take i.count i.entries) ≡ map (λ (e : Entry). e.letter) es
+  index_letters = rw index_entries
+
+  pub index_offsets : map (λ (e : Entry). e.at) (take i.count i.entries) ≡ map (λ (e : Entry). e.at) es
+  index_offsets = rw index_entries
+
+  pub index_corrections : map (λ (e : Entry). e.correction) (take i.count i.entries) ≡ map (λ (e : Entry). e.correction) es
+  index_corrections = rw index_entries
 
 few_said : (rest : Reading) (n : ℕ) (es : List Entry) (m : ℕ) → rest ≡ said n es → FewIn rest m → length es * 135 ≤ m
 unfolding FewIn

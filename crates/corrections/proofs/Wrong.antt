@@ -1,6 +1,7 @@
 -- A log is refused exactly where it goes wrong or past a limit: by 9 at the first line that can't be completed, and there at the first byte
 -- from which it can't; by 13 for its length, or at the first complete line that is one too many.
 -- Assumes nothing.
+use Rattle.std.specs.Prelude.{Err}
 use mathlib.Core.Path.{◌≡◌, refl, sym, ap, subst, ◌∙◌}
 use mathlib.Core.Logic.{◌↔◌, ◌⊎◌, inl, inr, ⊎_elim}
 use mathlib.Core.Bool.{true, false}
@@ -13,7 +14,6 @@ use borrow.Author.Tests.{ltb-true, ltb-false, lt-ltb, le-ltb}
 use Rattle.slices.proofs.Cases.{split}
 use Rattle.refusals.specs.Table.{log_line, log_too_long}
 use Rattle.refusals.specs.declared.Refusal.{Refusal}
-use Rattle.corrections.specs.declared.lines.Line.TheVariants.{Stopped}
 use Rattle.corrections.specs.Lines.{line_of}
 use Rattle.corrections.specs.Reading.{Entry, Reading, refused, said, read, read_log}
 use Rattle.corrections.specs.Text.{LegalLine, begins, changes, LegalLog, GoesWrong, here, ends, later}
@@ -94,7 +94,7 @@ wrong_behind {line = line} (later {after = then} {bs = others} {r = r} j g) k re
     (subst (λ (x : List ℕ). GoesWrong then (line + 1) x r) (same_rest j k others rest e) g)
 
 -- where a line stops, it goes wrong at its column
-wrong_stopped : {begun line column : ℕ} {bs : List ℕ} {r : Refusal} → GoesWrong begun line bs r → line_of begun bs ≡ Stopped column
+wrong_stopped : {begun line column : ℕ} {bs : List ℕ} {r : Refusal} → GoesWrong begun line bs r → line_of begun bs ≡ Err column
     → log_line line column ≡ r
 wrong_stopped {begun} {line} {bs = bs} (here n i w bare halt) e = ap (log_line line) (same_column (sym e ∙ wrong_here begun bs n i w bare halt))
 wrong_stopped {begun} {line} {bs = bs} (ends g w bare) e = ap (log_line line) (same_column (sym e ∙ wrong_end begun bs w bare))

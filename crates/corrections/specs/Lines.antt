@@ -1,10 +1,10 @@
 -- The lines that a log may have, as forms: for each place of a line the bytes that may stand there. How far some bytes go along with a
 -- form says whether they are such a line, and from which byte on they can't be completed to one.
 -- Assumes nothing.
-use Rattle.std.specs.Prelude.{ℕ, zero, suc, ◌+◌, max, Bool, true, cond, ◌&&◌, List, [], ◌∷◌, ◌++◌, map, eqb, leb, length, get_or, drop, replicate}
+use Rattle.std.specs.Prelude.{ℕ, zero, suc, ◌+◌, max, Bool, true, cond, ◌&&◌, List, [], ◌∷◌, ◌++◌, map, eqb, leb, length, get_or, drop, replicate, Result, Ok, Err}
 use Rattle.digits.specs.Decimal.{decimal}
 use Rattle.corrections.specs.declared.lines.Line.{Line}
-use Rattle.corrections.specs.declared.lines.Line.TheVariants.{Heading, TakenOut, PutIn, Stopped}
+use Rattle.corrections.specs.declared.lines.Line.TheVariants.{Heading, TakenOut, PutIn}
 
 -- what may stand at one place of a line: one byte alone, or the bytes of a record
 pub data Span : Type 0 where
@@ -65,14 +65,14 @@ longest [] bs = 0
 longest (f ∷ fs) bs = max (reach f bs) (longest fs bs)
 
 -- the line that stands in front, or the first byte, counted from 1, from which it can't be completed
-unfoldable pub line_of : (begun : ℕ) → List ℕ → Line
+unfoldable pub line_of : (begun : ℕ) → List ℕ → Result Line ℕ
 line_of begun bs =
-    cond (whole (heading (begun + 1)) bs) Heading
-    (cond (eqb begun 0) (Stopped (longest (forms begun) bs + 1))
-    (cond (whole (change 68) bs) TakenOut
-    (cond (whole (change 65) bs) PutIn
-    (Stopped (longest (forms begun) bs + 1)))))
+    cond (whole (heading (begun + 1)) bs) (Ok Heading)
+    (cond (eqb begun 0) (Err (longest (forms begun) bs + 1))
+    (cond (whole (change 68) bs) (Ok TakenOut)
+    (cond (whole (change 65) bs) (Ok PutIn)
+    (Err (longest (forms begun) bs + 1)))))
 
 -- the same at an offset of a log
-unfoldable pub line_at : (begun at : ℕ) → List ℕ → Line
+unfoldable pub line_at : (begun at : ℕ) → List ℕ → Result Line ℕ
 line_at begun at log = line_of begun (drop at log)

@@ -4,24 +4,20 @@
 
 mod lines;
 
-ghost use Rattle.std.specs.Prelude.{◌≡◌, ◌+◌, ◌-◌, ◌<◌, ◌≤◌, length, set};
-ghost use Rattle.std.proofs.lemmas.List.Edits.{sets};
+ghost use Rattle.std.specs.Prelude.{◌≡◌, ◌+◌, ◌-◌, ◌<◌, ◌≤◌, [], ◌∷◌, length};
 ghost use Rattle.corrections.specs.Reading.{
-  refused,
   line_verdict,
   begun_after,
   room_after,
   width_of,
-  changes,
+  entry,
   entries_of,
-  letters,
-  offsets,
-  numbers,
   read_log,
   index_of,
+  grown,
 };
 
-use lines::Line;
+use lines::{Line, line_at};
 use refusals::{MOST_RECORDS, Refusal, Verdict};
 
 // How many bytes a log has at most, and how many corrections.
@@ -34,29 +30,58 @@ pub const CHANGE_WIDTH: usize = 135;
 
 pub const MOST_CHANGES: usize = LONGEST_LOG / CHANGE_WIDTH;
 
-// What a log says. `corrections` is how many it has, `count` how many D and A lines; for each of these, in their order, its letter, the
-// offset of its 132 bytes in the log and the number of its correction. A log of 60,000 bytes has no more than 444 such lines.
-#[derive(Clone, Copy)]
-pub struct Index {
-    pub verdict: Verdict,
-    pub corrections: usize,
-    pub count: usize,
-    pub kind: [u8; MOST_CHANGES],
-    pub at: [u32; MOST_CHANGES],
-    pub correction: [u32; MOST_CHANGES],
+// A D or A line of a log: its letter, the offset of its 132 bytes in the log and the number of its correction. The letter is a byte and no
+// enum: whoever applies an index takes one with any letters.
+#[derive(Clone, Copy, Debug, PartialEq, Eq)]
+pub struct Entry {
+    pub letter: u8,
+    pub at: u32,
+    pub correction: u32,
 }
 
-// The index of a log that is refused: nothing but zeros beside the refusal.
-pub fn refused_by(refusal: Refusal) -> Index
-    ensures { result ≡ index_of (refused refusal) }
-{
-    Index {
-        verdict: Err(refusal),
-        corrections: 0,
-        count: 0,
-        kind: [0u8; MOST_CHANGES],
-        at: [0u32; MOST_CHANGES],
-        correction: [0u32; MOST_CHANGES],
+const NO_ENTRY: Entry = Entry {
+    letter: 0,
+    at: 0,
+    correction: 0,
+};
+
+// What a log says: how many corrections, how many D and A lines, and these in their order; zeros past their count. A log of 60,000 bytes
+// has no more than 444 such lines.
+#[derive(Clone, Copy, Debug, PartialEq, Eq)]
+pub struct Index {
+    pub corrections: usize,
+    pub count: usize,
+    pub entries: [Entry; MOST_CHANGES],
+}
+
+impl Index {
+    // Puts a D or A line, which stands at an offset, behind those before it.
+    fn push(&mut self, letter: u8, at: usize)
+        requires { (self.old.count < 444) × (self.old.corrections ≤ 200) × (at ≤ 60000) }
+        ensures { self.new ≡ grown self.old self.old.corrections (entry letter (at + 2) self.old.corrections ∷ []) }
+    {
+        self.entries[self.count] = Entry {
+            letter,
+            at: (at + 2) as u32,
+            correction: self.corrections as u32,
+        };
+        self.count += 1;
+    }
+
+    // Takes in a line, which stands at an offset.
+    fn take(&mut self, line: Line, at: usize)
+        requires { (self.old.count + length (entries_of self.old.corrections at line) ≤ 444)
+            × (self.old.corrections ≤ 200)
+            × (at ≤ 60000) }
+        ensures { self.new ≡ grown self.old (begun_after self.old.corrections line) (entries_of self.old.corrections at line) }
+    {
+        match line {
+            Line::Heading => {
+                self.corrections += 1;
+            }
+            Line::TakenOut => self.push(b'D', at),
+            Line::PutIn => self.push(b'A', at),
+        }
     }
 }
 
@@ -64,11 +89,7 @@ pub fn refused_by(refusal: Refusal) -> Index
 fn room_beside(frozen: usize) -> usize
     ensures { result ≡ 480 - frozen }
 {
-    if frozen < MOST_RECORDS {
-        MOST_RECORDS - frozen
-    } else {
-        0
-    }
+    MOST_RECORDS.saturating_sub(frozen)
 }
 
 // How many have room after a line.
@@ -76,37 +97,19 @@ fn room_after(line: Line, room: usize) -> usize
     ensures { result ≡ room_after room line }
 {
     match line {
-        Line::Heading => room,
-        Line::TakenOut => room,
-        Line::PutIn => {
-            if room == 0 {
-                return 0;
-            }
-            room - 1
-        }
-        Line::Stopped(column) => room,
+        Line::Heading | Line::TakenOut => room,
+        Line::PutIn => room.saturating_sub(1),
     }
 }
 
-// Judges a line by its number, by how many corrections have begun and by how many A lines have room: 9, then 13.
+// Judges a line by its number, by how many corrections have begun and by how many A lines have room.
 fn judge_line(line: Line, number: usize, begun: usize, room: usize) -> Verdict
     ensures { result ≡ line_verdict number begun room line }
 {
     match line {
-        Line::Heading => {
-            if begun < MOST_CORRECTIONS {
-                return Ok(());
-            }
-            Err(Refusal::too_many_corrections(number))
-        }
-        Line::TakenOut => Ok(()),
-        Line::PutIn => {
-            if room == 0 {
-                return Err(Refusal::no_room(number));
-            }
-            Ok(())
-        }
-        Line::Stopped(column) => Err(Refusal::log_line(number, column)),
+        Line::Heading if MOST_CORRECTIONS <= begun => Err(Refusal::too_many_corrections(number)),
+        Line::PutIn if room == 0 => Err(Refusal::no_room(number)),
+        Line::Heading | Line::TakenOut | Line::PutIn => Ok(()),
     }
 }
 
@@ -117,127 +120,35 @@ fn width(line: Line, begun: usize) -> usize
 {
     match line {
         Line::Heading => lines::heading_width(begun + 1),
-        Line::TakenOut => CHANGE_WIDTH,
-        Line::PutIn => CHANGE_WIDTH,
-        Line::Stopped(column) => column,
-    }
-}
-
-// How many corrections have begun after a line.
-fn begun_after(line: Line, begun: usize) -> usize
-    requires { begun ≤ 200 }
-    ensures { result ≡ begun_after begun line }
-{
-    match line {
-        Line::Heading => begun + 1,
-        Line::TakenOut => begun,
-        Line::PutIn => begun,
-        Line::Stopped(column) => begun,
-    }
-}
-
-// How many D and A lines there are after a line.
-fn count_after(line: Line, count: usize) -> usize
-    requires { count ≤ 444 }
-    ensures { result ≡ count + changes line }
-{
-    match line {
-        Line::Heading => count,
-        Line::TakenOut => count + 1,
-        Line::PutIn => count + 1,
-        Line::Stopped(column) => count,
-    }
-}
-
-// Stores a D or A line, which stands at an offset, behind those before it.
-fn store_change(
-    kind: &mut [u8; MOST_CHANGES],
-    starts: &mut [u32; MOST_CHANGES],
-    correction: &mut [u32; MOST_CHANGES],
-    count: usize,
-    begun: usize,
-    at: usize,
-    letter: u8,
-)
-    requires { (count < 444) × (begun ≤ 200) × (at ≤ 60000) }
-    ensures { (kind.new ≡ set kind.old count letter)
-        × (starts.new ≡ set starts.old count (at + 2))
-        × (correction.new ≡ set correction.old count begun) }
-{
-    kind[count] = letter;
-    starts[count] = (at + 2) as u32;
-    correction[count] = begun as u32;
-}
-
-// Stores what a line adds.
-fn store_line(
-    kind: &mut [u8; MOST_CHANGES],
-    starts: &mut [u32; MOST_CHANGES],
-    correction: &mut [u32; MOST_CHANGES],
-    count: usize,
-    begun: usize,
-    at: usize,
-    line: Line,
-)
-    requires { (count + length (entries_of begun at line) ≤ 444) × (begun ≤ 200) × (at ≤ 60000) }
-    ensures { (kind.new ≡ sets kind.old count (letters (entries_of begun at line)))
-        × (starts.new ≡ sets starts.old count (offsets (entries_of begun at line)))
-        × (correction.new ≡ sets correction.old count (numbers (entries_of begun at line))) }
-{
-    match line {
-        Line::Heading => {}
-        Line::TakenOut => store_change(kind, starts, correction, count, begun, at, b'D'),
-        Line::PutIn => store_change(kind, starts, correction, count, begun, at, b'A'),
-        Line::Stopped(column) => {}
+        Line::TakenOut | Line::PutIn => CHANGE_WIDTH,
     }
 }
 
 // Reads a log beside so many frozen records: 13 for its length; then line by line 9, and 13 for correction 201 and for an A line that
 // has no room.
-pub fn index_of(log: &[u8], frozen: usize) -> Index
+pub fn index_of(log: &[u8], frozen: usize) -> Result<Index, Refusal>
     ensures { result ≡ index_of (read_log log.now frozen) }
 {
     if LONGEST_LOG < log.len() {
-        return refused_by(Refusal::log_too_long());
+        return Err(Refusal::log_too_long());
     }
-    let mut kind = [0u8; MOST_CHANGES];
-    let mut starts = [0u32; MOST_CHANGES];
-    let mut correction = [0u32; MOST_CHANGES];
-    let mut begun: usize = 0;
-    let mut count: usize = 0;
+    let mut index = Index {
+        corrections: 0,
+        count: 0,
+        entries: [NO_ENTRY; MOST_CHANGES],
+    };
     let mut room = room_beside(frozen);
     let mut number: usize = 1;
     let mut at: usize = 0;
     while at < log.len() {
-        let line = lines::line_at(log, at, begun);
-        let verdict = judge_line(line, number, begun, room);
-        match verdict {
-            Ok(()) => {}
-            Err(r) => {
-                return refused_by(r);
-            }
-        }
-        store_line(
-            &mut kind,
-            &mut starts,
-            &mut correction,
-            count,
-            begun,
-            at,
-            line,
-        );
-        count = count_after(line, count);
+        let begun = index.corrections;
+        let line = line_at(log, at, begun).map_err(|column| Refusal::log_line(number, column))?;
+        judge_line(line, number, begun, room)?;
+        let next = at + width(line, begun);
+        index.take(line, at);
         room = room_after(line, room);
-        at += width(line, begun);
-        begun = begun_after(line, begun);
+        at = next;
         number += 1;
     }
-    Index {
-        verdict: Ok(()),
-        corrections: begun,
-        count: count,
-        kind: kind,
-        at: starts,
-        correction: correction,
-    }
+    Ok(index)
 }

@@ -6,12 +6,11 @@ ghost use Rattle.corrections.specs.Lines.{exactly, printable, allows, heading, c
 use crate::CHANGE_WIDTH;
 use slices::byte_at;
 
-#[derive(Clone, Copy)]
+#[derive(Clone, Copy, Debug, PartialEq, Eq)]
 pub enum Line {
     Heading,
     TakenOut,
     PutIn,
-    Stopped(usize),
 }
 
 // The greater of two numbers.
@@ -170,25 +169,26 @@ fn change_stands(log: &[u8], i: usize, letter: u8) -> bool
     log[i + 134] == b'\n'
 }
 
-// The line that stands at an offset, where so many corrections have begun.
-pub(crate) fn line_at(log: &[u8], i: usize, begun: usize) -> Line
+// The line that stands at an offset, where so many corrections have begun; or else the first byte, counted from 1, from which none can
+// be completed.
+pub(crate) fn line_at(log: &[u8], i: usize, begun: usize) -> Result<Line, usize>
     requires { (i < 70000) × (begun ≤ 200) }
     ensures { result ≡ line_at begun i log.now }
 {
     if heading_stands(log, i, begun + 1) {
-        return Line::Heading;
+        return Ok(Line::Heading);
     }
     if begun == 0 {
-        return Line::Stopped(reach_heading(log, i, begun + 1) + 1);
+        return Err(reach_heading(log, i, begun + 1) + 1);
     }
     if change_stands(log, i, b'D') {
-        return Line::TakenOut;
+        return Ok(Line::TakenOut);
     }
     if change_stands(log, i, b'A') {
-        return Line::PutIn;
+        return Ok(Line::PutIn);
     }
     let headed = reach_heading(log, i, begun + 1);
     let taken = reach_change(log, i, b'D');
     let put = reach_change(log, i, b'A');
-    Line::Stopped(greater(headed, greater(taken, put)) + 1)
+    Err(greater(headed, greater(taken, put)) + 1)
 }

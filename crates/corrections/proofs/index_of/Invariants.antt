@@ -3,13 +3,12 @@ use mathlib.Core.Path.{◌≡◌}
 use Prim.Native.Nat.{◌-◌}
 use lib.ListN.{length}
 use Rattle.corrections.specs.Reading.{read_log, index_of}
-use Rattle.corrections.proofs.IndexLaws.{index}
 use Rattle.corrections.proofs.Turns.{Kept, reading}
 use Rattle.corrections.proofs.index_of.Given as goal
 
 abbrev pub invariant-loop-at : goal.invariant-loop-at
 invariant-loop-at l =
-    Kept l.log (index l.begun l.count l.kind l.starts l.correction) l.number l.at × (index_of (read_log l.log l.frozen) ≡ reading l.log (index l.begun l.count l.kind l.starts l.correction) l.number l.room l.at)
+    Kept l.log l.index l.number l.at × (index_of (read_log l.log l.frozen) ≡ reading l.log l.index l.number l.room l.at)
 
 abbrev pub decreases-loop-at : goal.decreases-loop-at
 decreases-loop-at l = length l.log - l.at
