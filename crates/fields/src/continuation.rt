@@ -22,6 +22,7 @@ pub struct Continuation {
 }
 
 // The 83 bytes of a record.
+#[tactic(auto, using(crate::proofs::ReadLaws::copied_whole, slices::proofs::PartLaws::length_part))]
 pub fn content_of(rec: &[u8]) -> [u8; 83]
     ensures { result ≡ columns 41 123 rec.now }
 {
@@ -32,6 +33,7 @@ pub fn content_of(rec: &[u8]) -> [u8; 83]
 
 impl Continuation {
     // The parts of a record that was judged.
+    #[tactic(auto, unfolding(crate::specs::Continuation::continuation_of))]
     pub fn of(rec: &[u8]) -> Continuation
         ensures { result ≡ continuation_of rec.now }
     {
@@ -44,6 +46,7 @@ impl Continuation {
     }
 
     // Columns 39-123.
+    #[tactic(auto, unfolding(crate::specs::Pieces::put_all, crate::specs::Pieces::put, crate::specs::Continuation::application_pieces))]
     fn put_application(self, content: [u8; 83], out: &mut [u8])
         ensures { out.new ≡ put_all (application_pieces self content) out.old }
     {
@@ -58,6 +61,7 @@ impl Continuation {
     }
 
     // The record of the continuation, whether it is legal or not.
+    #[tactic(auto, using(crate::proofs::PutLaws::put_all_both), unfolding(crate::specs::Continuation::render_continuation, crate::specs::Continuation::continuation_pieces))]
     pub fn render(self, content: [u8; 83]) -> [u8; 132]
         ensures { result ≡ render_continuation self content }
     {

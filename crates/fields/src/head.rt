@@ -52,6 +52,7 @@ pub struct Tail {
 }
 
 // Whether the number in column 39 is one of a continuation: 2 to 9, A to Z.
+#[tactic(auto, unfolding(crate::specs::Head::continues, columns::specs::ByteSets::fits))]
 pub(crate) fn is_continuation_number(b: u8) -> bool
     ensures { result ≡ continues b }
 {
@@ -59,6 +60,7 @@ pub(crate) fn is_continuation_number(b: u8) -> bool
 }
 
 impl Route {
+    #[tactic(auto, unfolding(crate::specs::Head::route_of))]
     fn of(rec: &[u8]) -> Route
         ensures { result ≡ route_of rec.now }
     {
@@ -74,6 +76,7 @@ impl Route {
         }
     }
 
+    #[tactic(auto, unfolding(crate::specs::Pieces::put_all, crate::specs::Pieces::put, crate::specs::Head::route_pieces))]
     fn put(self, out: &mut [u8])
         ensures { out.new ≡ put_all (route_pieces self) out.old }
     {
@@ -90,6 +93,7 @@ impl Route {
 }
 
 impl Fix {
+    #[tactic(auto, unfolding(crate::specs::Head::fix_of))]
     fn of(rec: &[u8]) -> Fix
         ensures { result ≡ fix_of rec.now }
     {
@@ -103,6 +107,7 @@ impl Fix {
 }
 
 impl Head {
+    #[tactic(auto, unfolding(crate::specs::Head::head_of))]
     pub(crate) fn of(rec: &[u8]) -> Head
         ensures { result ≡ head_of rec.now }
     {
@@ -114,6 +119,7 @@ impl Head {
     }
 
     // Columns 27-38.
+    #[tactic(auto, unfolding(crate::specs::Pieces::put_all, crate::specs::Head::place_pieces))]
     fn put_place(self, out: &mut [u8])
         ensures { out.new ≡ put_all (place_pieces self) out.old }
     {
@@ -125,6 +131,7 @@ impl Head {
         put_byte(out, Field::FIX_SUBSECTION, fix.subsection);
     }
 
+    #[tactic(auto, using(crate::proofs::PutLaws::put_all_both), unfolding(crate::specs::Head::head_pieces))]
     pub(crate) fn put(self, out: &mut [u8])
         ensures { out.new ≡ put_all (head_pieces self) out.old }
     {
@@ -134,6 +141,7 @@ impl Head {
 }
 
 impl Cycle {
+    #[tactic(auto, unfolding(crate::specs::Head::cycle_of))]
     fn of(rec: &[u8]) -> Cycle
         ensures { result ≡ cycle_of rec.now }
     {
@@ -145,6 +153,7 @@ impl Cycle {
 }
 
 impl Tail {
+    #[tactic(auto, unfolding(crate::specs::Head::tail_of))]
     pub(crate) fn of(rec: &[u8]) -> Tail
         ensures { result ≡ tail_of rec.now }
     {
@@ -154,6 +163,7 @@ impl Tail {
         }
     }
 
+    #[tactic(auto, unfolding(crate::specs::Pieces::put_all, crate::specs::Head::tail_pieces))]
     pub(crate) fn put(self, out: &mut [u8])
         ensures { out.new ≡ put_all (tail_pieces self) out.old }
     {

@@ -1,5 +1,5 @@
 // Numbers in decimal digits, read from a field's columns and put there between marks. Assumes of its callers, all in this crate, that
-// columns count from 1 to 132, a number has at most six digits, and a mark at most two letters.
+// columns count to 132, a number has at most six digits, and a mark at most two letters.
 ghost use Rattle.std.specs.Prelude.{◌≡◌, [], ◌+◌, ◌-◌, ◌^◌, ◌≤◌, ◌<◌, length};
 ghost use Rattle.std.proofs.lemmas.List.Edits.{sets};
 ghost use Rattle.slices.specs.Part.{part};
@@ -8,6 +8,7 @@ ghost use Rattle.columns.specs.Fields.{bytes_in};
 ghost use Rattle.fields.specs.Pieces.{fill};
 ghost use Rattle.fields.specs.Numbers.{digits_of, marked_digits};
 
+use crate::text::start;
 use columns::field::Field;
 use digits::number;
 use slices::{copy, put_after};
@@ -26,6 +27,7 @@ fn put_digits(out: &mut [u8], at: usize, width: usize, n: u32)
 }
 
 // Puts a number of `width` digits between its marks; one of more digits leaves a byte 0, which is legal nowhere.
+#[tactic(auto, using(crate::proofs::PutLaws::put_fits, crate::proofs::PutLaws::put_unfit))]
 pub(crate) fn put_marked(
     out: &mut [u8],
     field: Field,
@@ -34,10 +36,10 @@ pub(crate) fn put_marked(
     after: &[u8],
     n: u32,
 )
-    requires { (1 ≤ field.0) × (field.0 ≤ 132) × (length before.now ≤ 2) × (width ≤ 6) }
+    requires { (field.0 ≤ 132) × (length before.now ≤ 2) × (width ≤ 6) }
     ensures { out.new ≡ fill field (marked_digits before.now width after.now n) out.old }
 {
-    let at = field.0 - 1;
+    let at = start(field);
     if n < 10u32.pow(width as u32) {
         let from = at + before.len();
         copy(before, 0, out, at, before.len());
@@ -50,24 +52,26 @@ pub(crate) fn put_marked(
 
 // Puts a number of as many digits as the field has columns.
 pub(crate) fn put_number(out: &mut [u8], field: Field, n: u32)
-    requires { (1 ≤ field.0) × (field.0 ≤ 132) × (field.1 ≤ 6) }
+    requires { (field.0 ≤ 132) × (field.1 ≤ 6) }
     ensures { out.new ≡ fill field (marked_digits [] field.1 [] n) out.old }
 {
     put_marked(out, field, b"", field.1, b"", n);
 }
 
 // The number that a field's columns say.
+#[tactic(auto, using(crate::proofs::ReadLaws::six_digits))]
 pub(crate) fn number_in(rec: &[u8], field: Field) -> u32
-    requires { (1 ≤ field.0) × (field.1 ≤ 6) }
+    requires { field.1 ≤ 6 }
     ensures { result ≡ value (bytes_in field rec.now) }
 {
-    number(rec, field.0 - 1, field.1)
+    number(rec, start(field), field.1)
 }
 
 // The number that `width` of a field's columns say, past its first k.
+#[tactic(auto, using(crate::proofs::ReadLaws::six_digits))]
 pub(crate) fn number_within(rec: &[u8], field: Field, k: usize, width: usize) -> u32
-    requires { (1 ≤ field.0) × (field.0 ≤ 132) × (k ≤ 6) × (width ≤ 6) }
+    requires { (field.0 ≤ 132) × (k ≤ 6) × (width ≤ 6) }
     ensures { result ≡ value (part width (field.0 - 1 + k) rec.now) }
 {
-    number(rec, field.0 - 1 + k, width)
+    number(rec, start(field) + k, width)
 }

@@ -12,7 +12,7 @@ pub(crate) trait Part: Copy {
 
     // Puts the part into a field; one that the field can't hold leaves a byte 0, which is legal nowhere.
     fn put(self, out: &mut [u8], field: Field)
-        requires { (1 ≤ field.0) × (field.0 ≤ 132) × (field.1 ≤ 6) }
+        requires { (field.0 ≤ 132) × (field.1 ≤ 6) }
         ensures { out.new ≡ fill field (bytes field.1 self) out.old };
 }
 

@@ -69,6 +69,7 @@ pub struct Leg {
 }
 
 impl Description {
+    #[tactic(auto, unfolding(crate::specs::Leg::description_of))]
     fn of(rec: &[u8]) -> Description
         ensures { result ≡ description_of rec.now }
     {
@@ -82,6 +83,7 @@ impl Description {
 }
 
 impl Navaid {
+    #[tactic(auto, unfolding(crate::specs::Leg::navaid_of))]
     fn of(rec: &[u8]) -> Navaid
         ensures { result ≡ navaid_of rec.now }
     {
@@ -95,6 +97,7 @@ impl Navaid {
 }
 
 impl CentreFix {
+    #[tactic(auto, unfolding(crate::specs::Leg::centre_fix_of))]
     fn of(rec: &[u8]) -> CentreFix
         ensures { result ≡ centre_fix_of rec.now }
     {
@@ -110,6 +113,7 @@ impl CentreFix {
 
 impl Leg {
     // The leg of a record that was judged.
+    #[tactic(auto, unfolding(crate::specs::Leg::leg_of))]
     pub fn of(rec: &[u8]) -> Leg
         ensures { result ≡ leg_of rec.now }
     {
@@ -144,6 +148,7 @@ impl Leg {
     }
 
     // Columns 39-56.
+    #[tactic(auto, unfolding(crate::specs::Pieces::put_all, crate::specs::Pieces::put, crate::specs::Leg::path_pieces))]
     fn put_path(self, out: &mut [u8])
         ensures { out.new ≡ put_all (path_pieces self) out.old }
     {
@@ -162,6 +167,7 @@ impl Leg {
     }
 
     // Columns 57-82.
+    #[tactic(auto, unfolding(crate::specs::Pieces::put_all, crate::specs::Pieces::put, crate::specs::Leg::course_pieces))]
     fn put_course(self, out: &mut [u8])
         ensures { out.new ≡ put_all (course_pieces self) out.old }
     {
@@ -175,6 +181,7 @@ impl Leg {
     }
 
     // Columns 83-106.
+    #[tactic(auto, unfolding(crate::specs::Pieces::put_all, crate::specs::Leg::height_pieces))]
     fn put_height(self, out: &mut [u8])
         ensures { out.new ≡ put_all (height_pieces self) out.old }
     {
@@ -189,6 +196,7 @@ impl Leg {
     }
 
     // Columns 107-123.
+    #[tactic(auto, unfolding(crate::specs::Pieces::put_all, crate::specs::Pieces::put, crate::specs::Leg::centre_pieces))]
     fn put_centre(self, out: &mut [u8])
         ensures { out.new ≡ put_all (centre_pieces self) out.old }
     {
@@ -209,6 +217,7 @@ impl Leg {
     }
 
     // The record of the leg, whether it is legal or not.
+    #[tactic(auto, using(crate::proofs::PutLaws::put_all_both), unfolding(crate::specs::Leg::render_leg, crate::specs::Leg::leg_pieces))]
     pub fn render(self) -> [u8; 132]
         ensures { result ≡ render_leg self }
     {

@@ -45,7 +45,7 @@ pub enum Altitude {
 // The quantity in a field of plain digits.
 #[tactic(auto, unfolding(crate::specs::Optional::unless_blank))]
 pub(crate) fn quantity_in<U: Unit>(rec: &[u8], field: Field) -> Option<U>
-    requires { (1 ≤ field.0) × (field.1 ≤ 6) }
+    requires { field.1 ≤ 6 }
     ensures { result ≡ quantity_of U.of (bytes_in field rec.now) }
 {
     if blank_in(rec, field) {
@@ -56,6 +56,7 @@ pub(crate) fn quantity_in<U: Unit>(rec: &[u8], field: Field) -> Option<U>
 }
 
 // The angle in columns 103-106, always downward.
+#[tactic(auto, using(crate::proofs::ReadLaws::vertical_down), unfolding(crate::specs::Optional::unless_blank))]
 pub(crate) fn vertical_angle_in(rec: &[u8]) -> Option<HundredthsOfDegree>
     ensures { result ≡ vertical_angle_of (columns 103 106 rec.now) }
 {
@@ -67,6 +68,7 @@ pub(crate) fn vertical_angle_in(rec: &[u8]) -> Option<HundredthsOfDegree>
 }
 
 impl Course {
+    #[tactic(auto, using(crate::proofs::ReadLaws::course_true, crate::proofs::ReadLaws::course_magnetic), unfolding(crate::specs::Optional::unless_blank))]
     pub(crate) fn of(rec: &[u8]) -> Option<Course>
         ensures { result ≡ course_of (columns 71 74 rec.now) }
     {
@@ -82,6 +84,7 @@ impl Course {
 
 impl Distance {
     // The distance of a leg of terminator t.
+    #[tactic(auto, using(crate::proofs::ReadLaws::distance_minutes, crate::proofs::ReadLaws::distance_miles), unfolding(crate::specs::Optional::unless_blank))]
     pub(crate) fn of(rec: &[u8], t: Terminator) -> Option<Distance>
         ensures { result ≡ distance_of (is_holding t) (columns 75 78 rec.now) }
     {
@@ -102,8 +105,9 @@ impl Distance {
 
 impl Altitude {
     // The altitude in one of two fields.
+    #[tactic(auto, using(crate::proofs::ReadLaws::altitude_level, crate::proofs::ReadLaws::altitude_below, crate::proofs::ReadLaws::altitude_feet), unfolding(crate::specs::Optional::unless_blank))]
     pub(crate) fn of(rec: &[u8], field: Field) -> Option<Altitude>
-        requires { (1 ≤ field.0) × (field.0 ≤ 132) × (field.1 ≡ 5) }
+        requires { (field.0 ≤ 132) × (field.1 ≡ 5) }
         ensures { result ≡ altitude_of (bytes_in field rec.now) }
     {
         if blank_in(rec, field) {

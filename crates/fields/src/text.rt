@@ -19,33 +19,37 @@ pub struct Text(pub u8, pub u8, pub u8, pub u8, pub u8, pub u8);
 #[derive(Clone, Copy, Debug, PartialEq, Eq)]
 pub struct Letter(pub u8);
 
+// Where a field begins, counted from 0. One at column 0, which is none, begins there too, so that no reader has to ask for another.
+pub(crate) fn start(field: Field) -> usize
+    ensures { result ≡ field.0 - 1 }
+{
+    field.0.saturating_sub(1)
+}
+
 // The byte in a field's first column.
 pub(crate) fn byte_in(rec: &[u8], field: Field) -> u8
-    requires { 1 ≤ field.0 }
     ensures { result ≡ byte_in field.0 rec.now }
 {
-    byte_at(rec, field.0 - 1)
+    byte_at(rec, start(field))
 }
 
 // The byte past the first k columns of a field.
 pub(crate) fn byte_within(rec: &[u8], field: Field, k: usize) -> u8
-    requires { 1 ≤ field.0 }
     ensures { result ≡ get_or rec.now (field.0 - 1 + k) 0 }
 {
-    byte_after(rec, field.0 - 1, k)
+    byte_after(rec, start(field), k)
 }
 
 // Whether a field is blank.
 pub(crate) fn blank_in(rec: &[u8], field: Field) -> bool
-    requires { 1 ≤ field.0 }
     ensures { result ≡ blank (bytes_in field rec.now) }
 {
-    is_blank(rec, field.0 - 1, field.1)
+    is_blank(rec, start(field), field.1)
 }
 
 // A byte of a field, and a blank past it.
+#[tactic(auto, using(crate::proofs::ReadLaws::with_blanks_within, crate::proofs::ReadLaws::with_blanks_past))]
 fn byte_or_blank(rec: &[u8], field: Field, k: usize) -> u8
-    requires { 1 ≤ field.0 }
     ensures { result ≡ get_or (bytes_in field rec.now) k 32 }
 {
     if k < field.1 {
@@ -56,16 +60,15 @@ fn byte_or_blank(rec: &[u8], field: Field, k: usize) -> u8
 }
 
 // Puts a byte.
+#[tactic(auto, unfolding(crate::specs::Pieces::put))]
 pub(crate) fn put_byte(out: &mut [u8], field: Field, b: u8)
-    requires { 1 ≤ field.0 }
     ensures { out.new ≡ fill field (b ∷ []) out.old }
 {
-    put_after(out, field.0 - 1, 0, b);
+    put_after(out, start(field), 0, b);
 }
 
 // Puts a byte that is right in its column; one that is not leaves a byte 0, which is legal nowhere.
 pub(crate) fn put_if(out: &mut [u8], field: Field, right: bool, b: u8)
-    requires { 1 ≤ field.0 }
     ensures { out.new ≡ fill field (or_zero right (b ∷ [])) out.old }
 {
     if right {
@@ -76,8 +79,8 @@ pub(crate) fn put_if(out: &mut [u8], field: Field, right: bool, b: u8)
 }
 
 // The text in a field.
+#[tactic(auto, unfolding(crate::specs::Text::text_of))]
 pub(crate) fn text_in(rec: &[u8], field: Field) -> Text
-    requires { 1 ≤ field.0 }
     ensures { result ≡ text_of (bytes_in field rec.now) }
 {
     Text(
@@ -91,13 +94,14 @@ pub(crate) fn text_in(rec: &[u8], field: Field) -> Text
 }
 
 // Puts a text that may be blank; one that is longer than its field leaves a byte 0, which is legal nowhere.
+#[tactic(auto, unfolding(crate::specs::Text::text_bytes, crate::specs::Text::bytes_of, crate::specs::Pieces::put))]
 pub(crate) fn put_text(out: &mut [u8], field: Field, text: Text)
-    requires { (1 ≤ field.0) × (field.1 ≤ 6) }
+    requires { field.1 ≤ 6 }
     ensures { out.new ≡ fill field (text_bytes field.1 text) out.old }
 {
     let bytes = [text.0, text.1, text.2, text.3, text.4, text.5];
     if is_blank(&bytes, field.1, 6 - field.1) {
-        copy(&bytes, 0, out, field.0 - 1, field.1);
+        copy(&bytes, 0, out, start(field), field.1);
     } else {
         put_byte(out, field, 0);
     }
@@ -106,7 +110,6 @@ pub(crate) fn put_text(out: &mut [u8], field: Field, text: Text)
 // The text in a field that may be blank.
 #[tactic(auto, unfolding(crate::specs::Optional::unless_blank))]
 pub(crate) fn word_in(rec: &[u8], field: Field) -> Option<Text>
-    requires { 1 ≤ field.0 }
     ensures { result ≡ word_of (bytes_in field rec.now) }
 {
     if blank_in(rec, field) {
@@ -119,7 +122,6 @@ pub(crate) fn word_in(rec: &[u8], field: Field) -> Option<Text>
 // The letter in a field that may be blank.
 #[tactic(auto, unfolding(crate::specs::Optional::unless_blank, slices::specs::Part::part, slices::specs::Part::blank))]
 pub(crate) fn letter_in(rec: &[u8], field: Field) -> Option<Letter>
-    requires { 1 ≤ field.0 }
     ensures { result ≡ letter_of (field_at field.0 1 rec.now) }
 {
     let b = byte_in(rec, field);

@@ -9,44 +9,22 @@
 ghost use Rattle.std.specs.Prelude.{◌<◌, ◌≤◌, ◌+◌, length};
 
 use fields::continuation::Continuation;
-use fields::head::{Cycle, Fix, Head, Tail};
+use fields::head::{Cycle, Fix, Head, Route, Tail};
 use fields::primary::{CentreFix, Leg, Navaid};
-use fields::quantities::{
-    Altitude, ArcRadius, Course, Distance, Rho, Rnp, Speed, Theta, TransitionAltitude,
-    VerticalAngle,
-};
-use fields::text::{Letter, Text, Word};
+use fields::quantities::{Altitude, Course, Distance};
+use fields::text::Text;
 use fields::units::{
-    Feet, FlightLevel, HundredthsOfDegree, Knots, TenthsOfDegree, TenthsOfMile, TenthsOfMinute,
-    ThousandthsOfMile, WholeDegrees,
+    Feet, FlightLevel, HundredthsOfDegree, Knots, Rnp, TenthsOfDegree, TenthsOfMile,
+    TenthsOfMinute, ThousandthsOfMile, WholeDegrees,
 };
 use leg::terminator::Terminator;
 use parts::Parts;
-use refusals::Verdict;
+use refusals::{Refusal, Verdict};
 use std::io::{BufWriter, Write};
 use std::{fs, io};
 
-fn print(to: &mut impl Write, text: &[u8]) -> io::Result<()> {
-    to.write_all(text)
-}
-
-fn print_number(to: &mut impl Write, n: usize) -> io::Result<()> {
-    write!(to, "{n}")
-}
-
-fn print_verdict(to: &mut impl Write, v: Verdict) -> io::Result<()> {
-    match v {
-        Ok(()) => print(to, b"yes\n"),
-        Err(r) => {
-            print(to, b"no\t")?;
-            print_number(to, r.number as usize)?;
-            print(to, b"\t")?;
-            print_number(to, r.place)?;
-            print(to, b"\t")?;
-            print_number(to, r.column)?;
-            print(to, b"\n")
-        }
-    }
+fn print_refusal(to: &mut impl Write, r: Refusal) -> io::Result<()> {
+    write!(to, "no\t{}\t{}\t{}\n", r.number, r.place, r.column)
 }
 
 // The end of the case whose length stands at `at`, within the set.
@@ -63,144 +41,77 @@ fn case_end(set: &[u8], at: usize) -> usize
 }
 
 // A number that may be absent: its digits behind a tab, or a minus.
-fn print_absent(to: &mut impl Write) -> io::Result<()> {
-    print(to, b"\t-")
-}
-
-fn print_field(to: &mut impl Write, n: u32) -> io::Result<()> {
-    print(to, b"\t")?;
-    print_number(to, n as usize)
-}
-
-fn print_marked(to: &mut impl Write, mark: &[u8], n: u32) -> io::Result<()> {
-    print(to, b"\t")?;
-    print(to, mark)?;
-    print_number(to, n as usize)
-}
-
-fn print_rnp(to: &mut impl Write, v: Rnp) -> io::Result<()> {
+fn print_number(to: &mut impl Write, v: Option<u32>) -> io::Result<()> {
     match v {
-        Rnp::Absent => print_absent(to),
-        Rnp::Is(n) => print_field(to, n),
+        None => write!(to, "\t-"),
+        Some(n) => write!(to, "\t{n}"),
     }
 }
 
-fn print_arc_radius(to: &mut impl Write, v: ArcRadius) -> io::Result<()> {
+fn print_course(to: &mut impl Write, v: Option<Course>) -> io::Result<()> {
     match v {
-        ArcRadius::Absent => print_absent(to),
-        ArcRadius::Is(n) => print_field(to, n.0),
+        None => write!(to, "\t-"),
+        Some(Course::Magnetic(n)) => write!(to, "\tm{}", n.0),
+        Some(Course::True(n)) => write!(to, "\tt{}", n.0),
     }
 }
 
-fn print_theta(to: &mut impl Write, v: Theta) -> io::Result<()> {
+fn print_distance(to: &mut impl Write, v: Option<Distance>) -> io::Result<()> {
     match v {
-        Theta::Absent => print_absent(to),
-        Theta::Is(n) => print_field(to, n.0),
+        None => write!(to, "\t-"),
+        Some(Distance::Miles(n)) => write!(to, "\td{}", n.0),
+        Some(Distance::Minutes(n)) => write!(to, "\tt{}", n.0),
     }
 }
 
-fn print_rho(to: &mut impl Write, v: Rho) -> io::Result<()> {
+fn print_altitude(to: &mut impl Write, v: Option<Altitude>) -> io::Result<()> {
     match v {
-        Rho::Absent => print_absent(to),
-        Rho::Is(n) => print_field(to, n.0),
-    }
-}
-
-fn print_course(to: &mut impl Write, v: Course) -> io::Result<()> {
-    match v {
-        Course::Absent => print_absent(to),
-        Course::Magnetic(n) => print_marked(to, b"m", n.0),
-        Course::True(n) => print_marked(to, b"t", n.0),
-    }
-}
-
-fn print_distance(to: &mut impl Write, v: Distance) -> io::Result<()> {
-    match v {
-        Distance::Absent => print_absent(to),
-        Distance::Miles(n) => print_marked(to, b"d", n.0),
-        Distance::Minutes(n) => print_marked(to, b"t", n.0),
-    }
-}
-
-fn print_altitude(to: &mut impl Write, v: Altitude) -> io::Result<()> {
-    match v {
-        Altitude::Absent => print_absent(to),
-        Altitude::Feet(n) => print_marked(to, b"f", n.0),
-        Altitude::Below(n) => print_marked(to, b"b", n.0),
-        Altitude::Level(n) => print_marked(to, b"l", n.0),
-    }
-}
-
-fn print_transition_altitude(to: &mut impl Write, v: TransitionAltitude) -> io::Result<()> {
-    match v {
-        TransitionAltitude::Absent => print_absent(to),
-        TransitionAltitude::Is(n) => print_field(to, n.0),
-    }
-}
-
-fn print_speed(to: &mut impl Write, v: Speed) -> io::Result<()> {
-    match v {
-        Speed::Absent => print_absent(to),
-        Speed::Is(n) => print_field(to, n.0),
-    }
-}
-
-fn print_vertical_angle(to: &mut impl Write, v: VerticalAngle) -> io::Result<()> {
-    match v {
-        VerticalAngle::Absent => print_absent(to),
-        VerticalAngle::Down(n) => print_field(to, n.0),
+        None => write!(to, "\t-"),
+        Some(Altitude::Feet(n)) => write!(to, "\tf{}", n.0),
+        Some(Altitude::Below(n)) => write!(to, "\tb{}", n.0),
+        Some(Altitude::Level(n)) => write!(to, "\tl{}", n.0),
     }
 }
 
 // The file's record number and the cycle, and whether what was written is what was read.
 fn print_end(to: &mut impl Write, tail: Tail, case: &[u8], written: [u8; 140]) -> io::Result<()> {
-    let cycle = tail.cycle;
-    print_field(to, tail.record_number)?;
-    print_field(to, cycle.year)?;
-    print_field(to, cycle.number)?;
+    write!(
+        to,
+        "\t{}\t{}\t{}",
+        tail.record_number,
+        tail.cycle.year,
+        tail.cycle.number
+    )?;
     let same = slices::same(case, 0, &written, 0, 133);
     let past = slices::same(&written, 133, &[0u8; 7], 0, 7);
     if same & past {
-        print(to, b"\tsame\n")
+        write!(to, "\tsame\n")
     } else {
-        print(to, b"\tdiffers\n")
+        write!(to, "\tdiffers\n")
     }
 }
 
 fn print_leg(to: &mut impl Write, leg: Leg, case: &[u8]) -> io::Result<()> {
-    let terminator = leg.terminator;
     let mut name = [0u8; 132];
-    terminator.put(&mut name);
-    let head = leg.head;
-    print(to, b"leg\t")?;
-    print(to, &name[47..49])?;
-    print_field(to, head.sequence)?;
-    let rnp = leg.rnp;
-    let arc_radius = leg.arc_radius;
-    let theta = leg.theta;
-    let rho = leg.rho;
-    let course = leg.course;
-    let distance = leg.distance;
-    let altitude = leg.altitude;
-    let second_altitude = leg.second_altitude;
-    let transition_altitude = leg.transition_altitude;
-    let speed = leg.speed;
-    let vertical_angle = leg.vertical_angle;
-    print_rnp(to, rnp)?;
-    print_arc_radius(to, arc_radius)?;
-    print_theta(to, theta)?;
-    print_rho(to, rho)?;
-    print_course(to, course)?;
-    print_distance(to, distance)?;
-    print_altitude(to, altitude)?;
-    print_altitude(to, second_altitude)?;
-    print_transition_altitude(to, transition_altitude)?;
-    print_speed(to, speed)?;
-    print_vertical_angle(to, vertical_angle)?;
+    leg.terminator.put(&mut name);
+    write!(to, "leg\t")?;
+    to.write_all(&name[47..49])?;
+    write!(to, "\t{}", leg.head.sequence)?;
+    print_number(to, leg.rnp.map(|v| v.0))?;
+    print_number(to, leg.arc_radius.map(|v| v.0))?;
+    print_number(to, leg.theta.map(|v| v.0))?;
+    print_number(to, leg.rho.map(|v| v.0))?;
+    print_course(to, leg.course)?;
+    print_distance(to, leg.distance)?;
+    print_altitude(to, leg.altitude)?;
+    print_altitude(to, leg.second_altitude)?;
+    print_number(to, leg.transition_altitude.map(|v| v.0))?;
+    print_number(to, leg.speed.map(|v| v.0))?;
+    print_number(to, leg.vertical_angle.map(|v| v.0))?;
     let mut written = [255u8; 140];
-    parts::write_leg(leg, &mut written);
-    let tail = leg.tail;
-    print_end(to, tail, case, written)
+    // What is printed is what stands in the buffer, refused or not.
+    let _ = parts::write_leg(leg, &mut written);
+    print_end(to, leg.tail, case, written)
 }
 
 fn print_continuation(
@@ -209,27 +120,20 @@ fn print_continuation(
     content: [u8; 83],
     case: &[u8],
 ) -> io::Result<()> {
-    let head = continuation.head;
-    print(to, b"continuation")?;
-    print_field(to, head.sequence)?;
-    print(to, b"\t")?;
-    let number = [continuation.number];
-    print(to, &number)?;
+    write!(to, "continuation\t{}\t", continuation.head.sequence)?;
+    to.write_all(&[continuation.number])?;
     let mut written = [255u8; 140];
-    parts::write_continuation(continuation, content, &mut written);
-    let tail = continuation.tail;
-    print_end(to, tail, case, written)
+    let _ = parts::write_continuation(continuation, content, &mut written);
+    print_end(to, continuation.tail, case, written)
 }
 
 fn print_case(to: &mut impl Write, case: &[u8]) -> io::Result<()> {
-    let reading = parts::read(case);
-    let verdict = reading.verdict;
-    let read = reading.parts;
-    let content = reading.content;
-    match read {
-        Parts::Nothing => print_verdict(to, verdict),
-        Parts::Leg(leg) => print_leg(to, leg, case),
-        Parts::Continuation(continuation) => print_continuation(to, continuation, content, case),
+    match parts::read(case) {
+        Ok(Parts::Leg(leg)) => print_leg(to, leg, case),
+        Ok(Parts::Continuation(continuation, content)) => {
+            print_continuation(to, continuation, content, case)
+        }
+        Err(r) => print_refusal(to, r),
     }
 }
 
@@ -246,10 +150,11 @@ fn print_cases(to: &mut impl Write, set: &[u8]) -> io::Result<()> {
 
 // What writing gives.
 fn print_written(to: &mut impl Write, k: usize, verdict: Verdict) -> io::Result<()> {
-    print(to, b"write\t")?;
-    print_number(to, k)?;
-    print(to, b"\t")?;
-    print_verdict(to, verdict)
+    write!(to, "write\t{k}\t")?;
+    match verdict {
+        Ok(()) => write!(to, "yes\n"),
+        Err(r) => print_refusal(to, r),
+    }
 }
 
 fn try_leg(to: &mut impl Write, k: usize, leg: Leg) -> io::Result<()> {
@@ -271,297 +176,96 @@ fn try_continuation(
     )
 }
 
-// The parts of a leg that are changed together: arc radius to distance, and altitude to vertical angle.
-#[derive(Clone, Copy)]
-struct Flown(ArcRadius, Theta, Rho, Course, Distance);
-
-#[derive(Clone, Copy)]
-struct Heights(Altitude, Altitude, TransitionAltitude, Speed, VerticalAngle);
-
-fn flown_of(leg: Leg) -> Flown {
-    let arc_radius = leg.arc_radius;
-    let theta = leg.theta;
-    let rho = leg.rho;
-    let course = leg.course;
-    let distance = leg.distance;
-    Flown(arc_radius, theta, rho, course, distance)
+fn with_sequence(head: Head, sequence: u32) -> Head {
+    Head { sequence, ..head }
 }
 
-fn heights_of(leg: Leg) -> Heights {
-    let altitude = leg.altitude;
-    let second_altitude = leg.second_altitude;
-    let transition_altitude = leg.transition_altitude;
-    let speed = leg.speed;
-    let vertical_angle = leg.vertical_angle;
-    Heights(
-        altitude,
-        second_altitude,
-        transition_altitude,
-        speed,
-        vertical_angle,
-    )
-}
-
-// A leg with these parts changed.
-fn remade(base: Leg, rnp: Rnp, terminator: Terminator, flown: Flown, heights: Heights) -> Leg {
-    let head = base.head;
-    let continuation = base.continuation;
-    let description = base.description;
-    let turn = base.turn;
-    let turn_valid = base.turn_valid;
-    let navaid = base.navaid;
-    let arc_radius = flown.0;
-    let theta = flown.1;
-    let rho = flown.2;
-    let course = flown.3;
-    let distance = flown.4;
-    let altitude_description = base.altitude_description;
-    let atc = base.atc;
-    let altitude = heights.0;
-    let second_altitude = heights.1;
-    let transition_altitude = heights.2;
-    let speed = heights.3;
-    let vertical_angle = heights.4;
-    let centre_fix = base.centre_fix;
-    let gps = base.gps;
-    let qualifier = base.qualifier;
-    let second_qualifier = base.second_qualifier;
-    let tail = base.tail;
+fn with_fix(leg: Leg, fix: Fix) -> Leg {
     Leg {
-        head: head,
-        continuation: continuation,
-        description: description,
-        turn: turn,
-        rnp: rnp,
-        terminator: terminator,
-        turn_valid: turn_valid,
-        navaid: navaid,
-        arc_radius: arc_radius,
-        theta: theta,
-        rho: rho,
-        course: course,
-        distance: distance,
-        altitude_description: altitude_description,
-        atc: atc,
-        altitude: altitude,
-        second_altitude: second_altitude,
-        transition_altitude: transition_altitude,
-        speed: speed,
-        vertical_angle: vertical_angle,
-        centre_fix: centre_fix,
-        gps: gps,
-        qualifier: qualifier,
-        second_qualifier: second_qualifier,
-        tail: tail,
+        head: Head { fix, ..leg.head },
+        ..leg
     }
 }
 
-fn with_rnp(leg: Leg, rnp: Rnp) -> Leg {
-    let terminator = leg.terminator;
-    remade(leg, rnp, terminator, flown_of(leg), heights_of(leg))
-}
-
-fn with_flown(leg: Leg, terminator: Terminator, flown: Flown) -> Leg {
-    let rnp = leg.rnp;
-    remade(leg, rnp, terminator, flown, heights_of(leg))
-}
-
-fn with_heights(leg: Leg, heights: Heights) -> Leg {
-    let rnp = leg.rnp;
-    let terminator = leg.terminator;
-    remade(leg, rnp, terminator, flown_of(leg), heights)
-}
-
-fn with_head(base: Leg, head: Head) -> Leg {
-    let mut leg = base;
-    leg.head = head;
-    leg
-}
-
-fn with_tail(base: Leg, tail: Tail) -> Leg {
-    let mut leg = base;
-    leg.tail = tail;
-    leg
-}
-
-fn with_sequence(base: Leg, sequence: u32) -> Leg {
-    let mut head = base.head;
-    head.sequence = sequence;
-    with_head(base, head)
-}
-
-fn with_airport(base: Leg, airport: Text) -> Leg {
-    let mut head = base.head;
-    let mut route = head.route;
-    route.airport = airport;
-    head.route = route;
-    with_head(base, head)
-}
-
-fn with_fix(base: Leg, identifier: Word, icao: Word, section: Letter) -> Leg {
-    let mut head = base.head;
-    let fix = head.fix;
-    let changed = Fix {
-        identifier: identifier,
-        icao: icao,
-        section: section,
-        subsection: fix.subsection,
-    };
-    head.fix = changed;
-    with_head(base, head)
-}
-
-fn without_navaid_identifier(base: Leg) -> Leg {
-    let mut leg = base;
-    let navaid = base.navaid;
-    let icao = navaid.icao;
-    let section = navaid.section;
-    let changed = Navaid {
-        identifier: Word::Absent,
-        icao: icao,
-        section: section,
-        subsection: navaid.subsection,
-    };
-    leg.navaid = changed;
-    leg
-}
-
-fn without_centre_section(base: Leg) -> Leg {
-    let mut leg = base;
-    let centre_fix = base.centre_fix;
-    let identifier = centre_fix.identifier;
-    let multiple = centre_fix.multiple;
-    let icao = centre_fix.icao;
-    let changed = CentreFix {
-        identifier: identifier,
-        multiple: multiple,
-        icao: icao,
-        section: Letter::Absent,
-        subsection: centre_fix.subsection,
-    };
-    leg.centre_fix = changed;
-    leg
-}
-
-fn with_both_altitudes_needed(base: Leg) -> Leg {
-    let mut leg = base;
-    leg.altitude_description = b'B';
-    leg
-}
-
-fn with_record_number(base: Leg, record_number: u32) -> Leg {
-    let mut tail = base.tail;
-    tail.record_number = record_number;
-    with_tail(base, tail)
-}
-
-fn tail_of(base: Tail, year: u32, number: u32) -> Tail {
-    let mut tail = base;
-    let cycle = Cycle {
-        year: year,
-        number: number,
-    };
-    tail.cycle = cycle;
-    tail
-}
-
-fn with_cycle(base: Leg, year: u32, number: u32) -> Leg {
-    let tail = base.tail;
-    with_tail(base, tail_of(tail, year, number))
+fn with_cycle(tail: Tail, year: u32, number: u32) -> Tail {
+    Tail {
+        cycle: Cycle { year, number },
+        ..tail
+    }
 }
 
 // The first record's leg, written with each change.
 fn print_number_writes(to: &mut impl Write, leg: Leg) -> io::Result<()> {
-    let t = leg.terminator;
-    let radius = leg.arc_radius;
-    let theta = leg.theta;
-    let rho = leg.rho;
-    let course = leg.course;
-    let distance = leg.distance;
     try_leg(to, 1, leg)?;
-    try_leg(to, 2, with_sequence(leg, 0))?;
-    try_leg(to, 3, with_sequence(leg, 1000))?;
-    try_leg(to, 4, with_rnp(leg, Rnp::Is(1000)))?;
-    let large = ArcRadius::Is(ThousandthsOfMile(1000000));
     try_leg(
         to,
-        5,
-        with_flown(leg, t, Flown(large, theta, rho, course, distance)),
+        2,
+        Leg {
+            head: with_sequence(leg.head, 0),
+            ..leg
+        },
     )?;
-    let large = Theta::Is(TenthsOfDegree(3601));
     try_leg(
         to,
-        6,
-        with_flown(leg, t, Flown(radius, large, rho, course, distance)),
+        3,
+        Leg {
+            head: with_sequence(leg.head, 1000),
+            ..leg
+        },
     )?;
-    let large = Rho::Is(TenthsOfMile(10000));
-    try_leg(
-        to,
-        7,
-        with_flown(leg, t, Flown(radius, theta, large, course, distance)),
-    )?;
-    let large = Course::Magnetic(TenthsOfDegree(3601));
-    try_leg(
-        to,
-        8,
-        with_flown(leg, t, Flown(radius, theta, rho, large, distance)),
-    )?;
-    let large = Course::True(WholeDegrees(361));
-    try_leg(
-        to,
-        9,
-        with_flown(leg, t, Flown(radius, theta, rho, large, distance)),
-    )?;
-    let north = Course::True(WholeDegrees(360));
-    try_leg(
-        to,
-        10,
-        with_flown(leg, t, Flown(radius, theta, rho, north, distance)),
-    )
+    let rnp = Some(Rnp(1000));
+    try_leg(to, 4, Leg { rnp, ..leg })?;
+    let arc_radius = Some(ThousandthsOfMile(1000000));
+    try_leg(to, 5, Leg { arc_radius, ..leg })?;
+    let theta = Some(TenthsOfDegree(3601));
+    try_leg(to, 6, Leg { theta, ..leg })?;
+    let rho = Some(TenthsOfMile(10000));
+    try_leg(to, 7, Leg { rho, ..leg })?;
+    let course = Some(Course::Magnetic(TenthsOfDegree(3601)));
+    try_leg(to, 8, Leg { course, ..leg })?;
+    let course = Some(Course::True(WholeDegrees(361)));
+    try_leg(to, 9, Leg { course, ..leg })?;
+    let course = Some(Course::True(WholeDegrees(360)));
+    try_leg(to, 10, Leg { course, ..leg })
 }
 
 fn print_distance_writes(to: &mut impl Write, leg: Leg) -> io::Result<()> {
-    let t = leg.terminator;
-    let radius = leg.arc_radius;
-    let theta = leg.theta;
-    let rho = leg.rho;
-    let course = leg.course;
-    let large = Distance::Miles(TenthsOfMile(10000));
-    try_leg(
-        to,
-        11,
-        with_flown(leg, t, Flown(radius, theta, rho, course, large)),
-    )?;
-    let minute = Distance::Minutes(TenthsOfMinute(10));
-    let hm = Terminator::Hm;
-    try_leg(
-        to,
-        12,
-        with_flown(leg, t, Flown(radius, theta, rho, course, minute)),
-    )?;
+    let distance = Some(Distance::Miles(TenthsOfMile(10000)));
+    try_leg(to, 11, Leg { distance, ..leg })?;
+    let distance = Some(Distance::Minutes(TenthsOfMinute(10)));
+    try_leg(to, 12, Leg { distance, ..leg })?;
+    let holding = Leg {
+        terminator: Terminator::Hm,
+        ..leg
+    };
     try_leg(
         to,
         13,
-        with_flown(leg, hm, Flown(radius, theta, rho, course, minute)),
+        Leg {
+            distance,
+            ..holding
+        },
     )?;
-    let large = Distance::Minutes(TenthsOfMinute(1000));
+    let distance = Some(Distance::Minutes(TenthsOfMinute(1000)));
     try_leg(
         to,
         14,
-        with_flown(leg, hm, Flown(radius, theta, rho, course, large)),
+        Leg {
+            distance,
+            ..holding
+        },
     )
 }
 
 // Another altitude.
 fn try_altitude(to: &mut impl Write, k: usize, leg: Leg, altitude: Altitude) -> io::Result<()> {
-    let second = leg.second_altitude;
-    let transition = leg.transition_altitude;
-    let speed = leg.speed;
-    let angle = leg.vertical_angle;
     try_leg(
         to,
         k,
-        with_heights(leg, Heights(altitude, second, transition, speed, angle)),
+        Leg {
+            altitude: Some(altitude),
+            ..leg
+        },
     )
 }
 
@@ -574,145 +278,153 @@ fn print_altitude_writes(to: &mut impl Write, leg: Leg) -> io::Result<()> {
 }
 
 fn print_height_writes(to: &mut impl Write, leg: Leg) -> io::Result<()> {
-    let altitude = leg.altitude;
-    let second = leg.second_altitude;
-    let transition = leg.transition_altitude;
-    let speed = leg.speed;
-    let angle = leg.vertical_angle;
-    let large = Altitude::Level(FlightLevel(1000));
+    let second_altitude = Some(Altitude::Level(FlightLevel(1000)));
     try_leg(
         to,
         20,
-        with_heights(leg, Heights(altitude, large, transition, speed, angle)),
+        Leg {
+            second_altitude,
+            ..leg
+        },
     )?;
-    let large = TransitionAltitude::Is(Feet(100000));
+    let transition_altitude = Some(Feet(100000));
     try_leg(
         to,
         21,
-        with_heights(leg, Heights(altitude, second, large, speed, angle)),
+        Leg {
+            transition_altitude,
+            ..leg
+        },
     )?;
-    let large = Speed::Is(Knots(1000));
-    try_leg(
-        to,
-        22,
-        with_heights(leg, Heights(altitude, second, transition, large, angle)),
-    )?;
-    let large = VerticalAngle::Down(HundredthsOfDegree(1000));
+    let speed = Some(Knots(1000));
+    try_leg(to, 22, Leg { speed, ..leg })?;
+    let vertical_angle = Some(HundredthsOfDegree(1000));
     try_leg(
         to,
         23,
-        with_heights(leg, Heights(altitude, second, transition, speed, large)),
+        Leg {
+            vertical_angle,
+            ..leg
+        },
+    )
+}
+
+// Another cycle.
+fn try_cycle(to: &mut impl Write, k: usize, leg: Leg, year: u32, number: u32) -> io::Result<()> {
+    try_leg(
+        to,
+        k,
+        Leg {
+            tail: with_cycle(leg.tail, year, number),
+            ..leg
+        },
     )
 }
 
 fn print_end_writes(to: &mut impl Write, leg: Leg) -> io::Result<()> {
-    let tail = leg.tail;
-    let cycle = tail.cycle;
-    try_leg(to, 24, with_record_number(leg, 100000))?;
-    try_leg(to, 25, with_cycle(leg, cycle.year, 15))?;
-    try_leg(to, 26, with_cycle(leg, cycle.year, 0))?;
-    try_leg(to, 27, with_cycle(leg, 100, cycle.number))?;
-    try_leg(
-        to,
-        28,
-        with_airport(leg, Text(b' ', b'K', b'S', b'E', b' ', b' ')),
-    )
+    let cycle = leg.tail.cycle;
+    let tail = Tail {
+        record_number: 100000,
+        ..leg.tail
+    };
+    try_leg(to, 24, Leg { tail, ..leg })?;
+    try_cycle(to, 25, leg, cycle.year, 15)?;
+    try_cycle(to, 26, leg, cycle.year, 0)?;
+    try_cycle(to, 27, leg, 100, cycle.number)?;
+    let route = Route {
+        airport: Text(b' ', b'K', b'S', b'E', b' ', b' '),
+        ..leg.head.route
+    };
+    let head = Head { route, ..leg.head };
+    try_leg(to, 28, Leg { head, ..leg })
 }
 
 fn print_companion_writes(to: &mut impl Write, leg: Leg) -> io::Result<()> {
-    let head = leg.head;
-    let fix = head.fix;
-    let identifier = fix.identifier;
-    let icao = fix.icao;
-    let section = fix.section;
-    try_leg(to, 29, with_fix(leg, Word::Absent, icao, section))?;
-    try_leg(to, 30, with_fix(leg, identifier, Word::Absent, section))?;
-    try_leg(to, 31, with_fix(leg, identifier, icao, Letter::Absent))?;
-    try_leg(to, 32, without_navaid_identifier(leg))?;
-    try_leg(to, 33, without_centre_section(leg))
+    let fix = leg.head.fix;
+    let identifier = None;
+    try_leg(to, 29, with_fix(leg, Fix { identifier, ..fix }))?;
+    let icao = None;
+    try_leg(to, 30, with_fix(leg, Fix { icao, ..fix }))?;
+    let section = None;
+    try_leg(to, 31, with_fix(leg, Fix { section, ..fix }))?;
+    let navaid = Navaid {
+        identifier: None,
+        ..leg.navaid
+    };
+    try_leg(to, 32, Leg { navaid, ..leg })?;
+    let centre_fix = CentreFix {
+        section: None,
+        ..leg.centre_fix
+    };
+    try_leg(to, 33, Leg { centre_fix, ..leg })
 }
 
 fn print_needed_writes(to: &mut impl Write, leg: Leg) -> io::Result<()> {
-    let t = leg.terminator;
-    let radius = leg.arc_radius;
-    let theta = leg.theta;
-    let rho = leg.rho;
-    let course = leg.course;
-    let distance = leg.distance;
-    try_leg(
-        to,
-        34,
-        with_flown(leg, t, Flown(radius, Theta::Absent, rho, course, distance)),
-    )?;
-    try_leg(
-        to,
-        35,
-        with_flown(leg, t, Flown(radius, theta, rho, Course::Absent, distance)),
-    )?;
-    try_leg(
-        to,
-        36,
-        with_flown(leg, t, Flown(radius, theta, rho, course, Distance::Absent)),
-    )?;
-    try_leg(
-        to,
-        37,
-        with_fix(leg, Word::Absent, Word::Absent, Letter::Absent),
-    )
+    let theta = None;
+    try_leg(to, 34, Leg { theta, ..leg })?;
+    let course = None;
+    try_leg(to, 35, Leg { course, ..leg })?;
+    let distance = None;
+    try_leg(to, 36, Leg { distance, ..leg })?;
+    let fix = Fix {
+        identifier: None,
+        icao: None,
+        section: None,
+        ..leg.head.fix
+    };
+    try_leg(to, 37, with_fix(leg, fix))
 }
 
-fn print_both_altitudes_writes(to: &mut impl Write, base: Leg) -> io::Result<()> {
-    let leg = with_both_altitudes_needed(base);
-    let altitude = leg.altitude;
-    let transition = leg.transition_altitude;
-    let speed = leg.speed;
-    let angle = leg.vertical_angle;
-    let none = Altitude::Absent;
-    try_leg(
-        to,
-        38,
-        with_heights(leg, Heights(altitude, none, transition, speed, angle)),
-    )?;
-    try_leg(
-        to,
-        39,
-        with_heights(leg, Heights(none, none, transition, speed, angle)),
-    )
+fn print_both_altitudes_writes(to: &mut impl Write, leg: Leg) -> io::Result<()> {
+    let one = Leg {
+        altitude_description: b'B',
+        second_altitude: None,
+        ..leg
+    };
+    try_leg(to, 38, one)?;
+    let none = Leg {
+        altitude: None,
+        ..one
+    };
+    try_leg(to, 39, none)
 }
 
 // Faults of three stages at once.
 fn print_faults_write(to: &mut impl Write, leg: Leg) -> io::Result<()> {
-    let t = leg.terminator;
-    let radius = leg.arc_radius;
-    let rho = leg.rho;
-    let distance = leg.distance;
-    let head = leg.head;
-    let fix = head.fix;
-    let icao = fix.icao;
-    let section = fix.section;
-    let large = Theta::Is(TenthsOfDegree(3601));
-    let faults = with_flown(leg, t, Flown(radius, large, rho, Course::Absent, distance));
-    try_leg(to, 40, with_fix(faults, Word::Absent, icao, section))
+    let faults = Leg {
+        theta: Some(TenthsOfDegree(3601)),
+        course: None,
+        ..leg
+    };
+    let fix = Fix {
+        identifier: None,
+        ..leg.head.fix
+    };
+    try_leg(to, 40, with_fix(faults, fix))
 }
 
-fn print_number_write(to: &mut impl Write, base: Leg) -> io::Result<()> {
-    let mut leg = base;
-    leg.continuation = b'2';
-    try_leg(to, 41, leg)
+fn print_number_write(to: &mut impl Write, leg: Leg) -> io::Result<()> {
+    let continuation = b'2';
+    try_leg(
+        to,
+        41,
+        Leg {
+            continuation,
+            ..leg
+        },
+    )
 }
 
 // A fourteenth cycle, in two years that have it and in one that does not.
 fn print_fourteenth_writes(to: &mut impl Write, leg: Leg) -> io::Result<()> {
-    try_leg(to, 42, with_cycle(leg, 20, 14))?;
-    try_leg(to, 43, with_cycle(leg, 98, 14))?;
-    try_leg(to, 44, with_cycle(leg, 21, 14))
+    try_cycle(to, 42, leg, 20, 14)?;
+    try_cycle(to, 43, leg, 98, 14)?;
+    try_cycle(to, 44, leg, 21, 14)
 }
 
 // A number of three digits for a cycle: its byte 0 is not in the first column of the field.
 fn print_long_cycle_write(to: &mut impl Write, leg: Leg) -> io::Result<()> {
-    let tail = leg.tail;
-    let cycle = tail.cycle;
-    try_leg(to, 45, with_cycle(leg, cycle.year, 100))
+    try_cycle(to, 45, leg, leg.tail.cycle.year, 100)
 }
 
 fn print_leg_writes(to: &mut impl Write, leg: Leg) -> io::Result<()> {
@@ -730,13 +442,6 @@ fn print_leg_writes(to: &mut impl Write, leg: Leg) -> io::Result<()> {
     print_long_cycle_write(to, leg)
 }
 
-fn continuation_with_cycle(base: Continuation, year: u32, number: u32) -> Continuation {
-    let mut continuation = base;
-    let tail = continuation.tail;
-    continuation.tail = tail_of(tail, year, number);
-    continuation
-}
-
 // The second record's parts, written with each change.
 fn print_continuation_writes(
     to: &mut impl Write,
@@ -744,29 +449,27 @@ fn print_continuation_writes(
     bytes: [u8; 83],
 ) -> io::Result<()> {
     try_continuation(to, 46, base, bytes)?;
-    let mut continuation = base;
-    let mut head = continuation.head;
-    head.sequence = 0;
-    continuation.head = head;
-    try_continuation(to, 47, continuation, bytes)?;
+    let head = with_sequence(base.head, 0);
+    try_continuation(to, 47, Continuation { head, ..base }, bytes)?;
     let mut content = bytes;
     content[41] = 31;
     try_continuation(to, 48, base, content)?;
-    let mut continuation = base;
-    continuation.number = b'1';
-    try_continuation(to, 49, continuation, bytes)?;
-    try_continuation(to, 50, continuation_with_cycle(base, 20, 14), bytes)?;
-    try_continuation(to, 51, continuation_with_cycle(base, 21, 14), bytes)
+    let number = b'1';
+    try_continuation(to, 49, Continuation { number, ..base }, bytes)?;
+    let tail = with_cycle(base.tail, 20, 14);
+    try_continuation(to, 50, Continuation { tail, ..base }, bytes)?;
+    let tail = with_cycle(base.tail, 21, 14);
+    try_continuation(to, 51, Continuation { tail, ..base }, bytes)
 }
 
+// Nothing is written of what is refused.
 fn print_writes(to: &mut impl Write, case: &[u8]) -> io::Result<()> {
-    let reading = parts::read(case);
-    let read = reading.parts;
-    let content = reading.content;
-    match read {
-        Parts::Nothing => Ok(()),
-        Parts::Leg(leg) => print_leg_writes(to, leg),
-        Parts::Continuation(continuation) => print_continuation_writes(to, continuation, content),
+    match parts::read(case) {
+        Ok(Parts::Leg(leg)) => print_leg_writes(to, leg),
+        Ok(Parts::Continuation(continuation, content)) => {
+            print_continuation_writes(to, continuation, content)
+        }
+        Err(_) => Ok(()),
     }
 }
 
@@ -779,69 +482,38 @@ fn print_writes_at(to: &mut impl Write, set: &[u8], at: usize) -> io::Result<()>
     Ok(())
 }
 
-fn print_run(
-    to: &mut impl Write,
-    first: usize,
-    last: usize,
-    number: u8,
-    column: usize,
-) -> io::Result<()> {
-    print(to, b"\t")?;
-    print_number(to, first)?;
-    print(to, b"-")?;
-    print_number(to, last)?;
-    print(to, b":")?;
-    print_number(to, number as usize)?;
-    print(to, b":")?;
-    print_number(to, column)
+fn print_run(to: &mut impl Write, first: usize, last: usize, said: Refusal) -> io::Result<()> {
+    write!(to, "\t{first}-{last}:{}:{}", said.number, said.column)
 }
 
 // Every byte in one column of a record.
-fn print_column(to: &mut impl Write, base: [u8; 132], column: usize) -> io::Result<()> {
-    if 132 <= column {
-        return Ok(());
-    }
+fn print_column(to: &mut impl Write, base: [u8; 132], column: usize) -> io::Result<()>
+    requires { column < 132 }
+{
     let mut rec = base;
+    rec[column] = 0;
     let mut from = 0;
-    let mut number = 255;
-    let mut at = 0;
-    let mut b = 0;
-    while b < 256 {
-        rec[column] = (b % 256) as u8;
-        let said = refusals::stated(leg::judge(&rec, 0));
-        if (said.number != number) | (said.column != at) {
-            if 0 < b {
-                print_run(to, from, b - 1, number, at)?;
-            }
+    let mut said = refusals::stated(leg::judge(&rec, 0));
+    for b in 1..256usize {
+        rec[column] = b as u8;
+        let next = refusals::stated(leg::judge(&rec, 0));
+        if next != said {
+            print_run(to, from, b - 1, said)?;
             from = b;
-            number = said.number;
-            at = said.column;
+            said = next;
         }
-        b += 1;
     }
-    print_run(to, from, 255, number, at)
-}
-
-fn print_line(to: &mut impl Write, base: [u8; 132], name: &[u8], column: usize) -> io::Result<()> {
-    if column < 132 {
-        print(to, b"sweep\t")?;
-        print(to, name)?;
-        print(to, b"\t")?;
-        print_number(to, column + 1)?;
-        print_column(to, base, column)?;
-        print(to, b"\n")?;
-    }
-    Ok(())
+    print_run(to, from, 255, said)
 }
 
 // Every byte in every column of the record that stands in the set from `from` on.
-fn print_sweep(to: &mut impl Write, set: &[u8], from: usize, name: &[u8]) -> io::Result<()> {
+fn print_sweep(to: &mut impl Write, set: &[u8], from: usize, name: &str) -> io::Result<()> {
     let mut base = [0u8; 132];
     slices::copy(set, from, &mut base, 0, 132);
-    let mut column = 0;
-    while column < 132 {
-        print_line(to, base, name, column)?;
-        column += 1;
+    for column in 0..132usize {
+        write!(to, "sweep\t{name}\t{}", column + 1)?;
+        print_column(to, base, column)?;
+        write!(to, "\n")?;
     }
     Ok(())
 }
@@ -851,9 +523,9 @@ fn print_all(to: &mut impl Write, set: &[u8]) -> io::Result<()> {
     let second = case_end(set, 0);
     print_writes_at(to, set, 0)?;
     print_writes_at(to, set, second)?;
-    print_sweep(to, set, 1, b"leg")?;
+    print_sweep(to, set, 1, "leg")?;
     if second < set.len() {
-        print_sweep(to, set, second + 1, b"continuation")?;
+        print_sweep(to, set, second + 1, "continuation")?;
     }
     Ok(())
 }

@@ -1,6 +1,0 @@
--- Up to six columns are read whole. Assumes nothing.
-use Rattle.fields.proofs.ReadLaws.{six_digits}
-use Rattle.fields.proofs.numbers.number_in.Goals as goal
-
-pub returns : goal.returns
-returns c = six_digits _ _ _ c.requires.1 c.number.ensures
