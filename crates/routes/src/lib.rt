@@ -118,8 +118,7 @@ fn walk<'a>(texts: Texts<'a>, known: &[u32], sources: &[u32], n: usize) -> Verdi
         primary: &[],
         before: &[],
     };
-    for i in 0..n {
-        let source = sources[i];
+    for (i, &source) in sources[..n].iter().enumerate() {
         let rec = texts.record(source);
         let last = ends_route(texts, &sources[i + 1..], rec);
         seen.judge_next(knows(known, source), rec, i + 1, last)?;
