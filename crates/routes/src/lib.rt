@@ -178,6 +178,7 @@ pub fn judge_range<'a>(
 }
 
 // What stands behind the n leading records of a file, each of 133 bytes: nothing, or a record that is cut short.
+#[tactic(auto, using(crate::proofs::FileLaws::tail_none, crate::proofs::FileLaws::tail_some))]
 fn judge_tail(file: &[u8], n: usize) -> Verdict
     requires { n ≤ 480 }
     ensures { result ≡ tail_stage (length file.now) n }
