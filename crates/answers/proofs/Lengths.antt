@@ -1,18 +1,17 @@
 -- How long the answers are: each fits in what has to be lent for it, so one that is written is whole; and where too little is lent there is none.
 -- Assumes nothing.
 use Rattle.std.specs.Prelude.{Ok, Err}
-use Rattle.refusals.specs.Table.{Verdict, Accepted, Refused}
-use mathlib.Core.Path.{◌≡◌, refl, sym, ap, subst}
+use Rattle.refusals.specs.Table.{Verdict, buffer_too_short}
+use mathlib.Core.Path.{◌≡◌, ◌∙◌, refl, sym, subst}
 use mathlib.Core.List.{List, [], ◌∷◌, ◌++◌, map}
 use Prim.Native.Nat.{ℕ, zero, suc, ◌+◌, ◌-◌, ◌*◌, ◌≤◌, ◌<◌}
 use native.Mathlib.Omega.{arith}
 use lib.ListN.{length, take, replicate, length-append, length-map}
-use lib.Seq.{take_at, length-take-le}
+use lib.Seq.{take_at}
 use mathlib.Core.Bool.{Bool, true, false, cond}
 use lib.Dec.{eqb, ltb}
 use Rattle.slices.proofs.Cases.{split}
 use Rattle.slices.proofs.PartLaws.{length_part}
-use Rattle.refusals.proofs.VerdictLaws.{never}
 use Rattle.digits.specs.Decimal.{decimal}
 use Rattle.digits.proofs.DecimalLaws.{decimal_width, width_below_1000}
 use Rattle.columns.specs.Patterns.{codes}
@@ -30,9 +29,8 @@ use Rattle.selection.specs.Reasons.{Reason, relying_of, relying_source, reasons_
 use Rattle.selection.specs.declared.Failure.{Failure}
 use Rattle.selection.proofs.Because.{Small, few_reasons}
 use Rattle.selection.proofs.Demand.{picked_demand}
-use Rattle.answers.specs.Answers.{no_line, count_line, take_line, take_lines, pick_text, tabbed, pick_answer, newfile_answer, check_answer, file_text, verdict_text, correction_count, answered, filled}
+use Rattle.answers.specs.Answers.{no_line, count_line, take_line, take_lines, pick_text, tabbed, pick_answer, newfile_answer, check_answer, file_text, verdict_text, correction_count, Answer, answered, filled}
 use Rattle.answers.specs.Why.{reason_line, reason_lines, record_line, frozen_record, line_text, in_text, route_text, more_text, why_text, why_answer}
-use Rattle.answers.specs.declared.Answer.{Answer}
 use Rattle.answers.proofs.WhyLaws.{more_few, line_few}
 
 length_tabbed : (n : ℕ) → n < 1000 → length (tabbed n) ≤ 4
@@ -241,32 +239,29 @@ why_fits f l want = by (settled_of f l (numbers_in 200 want)) (reasons_of f l (n
 
 -- ---- so an answer is whole, or there is none
 
+pub never_both : {n : ℕ} {r : Refusal} → ◌≡◌ {A = Answer} (Ok n) (Err r) → ⊥
+never_both e = let z : ◌≡◌ {A = ℕ} 0 1 = cc in omega arith
+
+same_count : {n m : ℕ} → ◌≡◌ {A = Answer} (Ok n) (Ok m) → n ≡ m
+same_count e = cc
+
 module _ (longest lent : ℕ) (answer : List ℕ) where
   -- On a refusal the buffer is nothing but zeros.
-  pub zeros_where_refused : (r : Refusal) → (answered longest lent answer).verdict ≡ Refused r → filled longest lent answer ≡ replicate lent 0
+  pub zeros_where_refused : (r : Refusal) → answered longest lent answer ≡ Err r → filled longest lent answer ≡ replicate lent 0
   unfolding answered filled
-  zeros_where_refused r e = split (ltb lent longest) (λ t. rw t) (λ t. absurd (never (sym (rw t at e))))
+  zeros_where_refused r e = split (ltb lent longest) (λ t. rw t) (λ t. absurd (never_both (rw t at e)))
 
   -- Otherwise the bytes that are counted are the answer.
-  pub whole_where_accepted : (answered longest lent answer).verdict ≡ Accepted
-      → take (answered longest lent answer).length (filled longest lent answer) ≡ answer
+  pub whole_where_accepted : (n : ℕ) → answered longest lent answer ≡ Ok n → take n (filled longest lent answer) ≡ answer
   unfolding answered filled
-  whole_where_accepted e =
-      split (ltb lent longest) (λ t. absurd (never (rw t at e)))
-      (λ t. rw t (take_at answer (replicate (lent - length answer) 0) (length answer) refl))
-
-  -- an answer is counted within the buffer, which keeps its length
-  counted_within : length answer ≤ longest → (answered longest lent answer).length ≤ length (filled longest lent answer)
-  unfolding answered filled
-  counted_within h =
-      split (ltb lent longest) (λ t. rw t (omega arith))
-      (λ t. rw t (omega (arith, length-append answer (replicate (lent - length answer) 0))))
+  whole_where_accepted n e =
+      split (ltb lent longest) (λ t. absurd (never_both (sym (rw t at e))))
+      (λ t. rw t (take_at answer (replicate (lent - length answer) 0) n (same_count (rw t at e))))
 
 -- Whatever is lent, what is counted lies in front of it.
-module _ (longest lent : ℕ) (answer : List ℕ) {out : List ℕ} {a : Answer} (fits : length answer ≤ longest)
-    (e : (a ≡ answered longest lent answer) × (out ≡ filled longest lent answer)) where
-  pub answer_within : a.length ≤ length out
-  answer_within = omega (arith, ap (λ (x : Answer). x.length) e.0, ap length e.1, counted_within longest lent answer fits)
-
-  pub answer_counted : a.length ≡ length (take a.length out)
-  answer_counted = sym (length-take-le a.length out answer_within)
+module _ (longest lent : ℕ) (answer : List ℕ) {out : List ℕ} {a : Answer} (e : (a ≡ answered longest lent answer) × (out ≡ filled longest lent answer)) where
+  pub answer_within : (n : ℕ) → a ≡ Ok n → n ≤ length out
+  unfolding answered filled
+  answer_within n q =
+      split (ltb lent longest) (λ t. absurd (never_both {r = buffer_too_short} (sym q ∙ e.0 ∙ rw t)))
+      (λ t. let k : n ≡ length answer = same_count (sym q ∙ e.0 ∙ rw t) in rw (e.1, t) (omega (arith, k, length-append answer (replicate (lent - length answer) 0))))

@@ -12,9 +12,8 @@ use Rattle.slices.proofs.PartLaws.{part_all}
 use Rattle.slices.proofs.WriteLaws.{sets-append, stored_front}
 use Rattle.digits.specs.Decimal.{decimal}
 use Rattle.digits.proofs.DecimalLaws.{Short, decimal_one, decimal_more}
-use Rattle.answers.specs.Answers.{answered, filled, tabbed, too_short, whole_answer}
+use Rattle.answers.specs.Answers.{Answer, answered, filled, tabbed, too_short, whole_answer}
 use Rattle.answers.specs.Written.{Wrote}
-use Rattle.answers.specs.declared.Answer.{Answer}
 
 -- ---- pieces
 
@@ -63,19 +62,18 @@ unfolding answered filled
 left_clear longest n answer h e = rw (lt-ltb n longest h) e
 
 -- enough is lent, and what is counted is in front
-pub left_whole : (longest n : ℕ) (answer : List ℕ) {out : List ℕ} {a : Answer} {end : ℕ}
-    → longest ≤ n → (end ≡ length answer) × (out ≡ padded n answer) → a ≡ whole_answer end
-    → (a ≡ answered longest n answer) × (out ≡ filled longest n answer)
+pub left_whole : (longest n : ℕ) (answer : List ℕ) {out : List ℕ} {end : ℕ}
+    → longest ≤ n → (end ≡ length answer) × (out ≡ padded n answer)
+    → (whole_answer end ≡ answered longest n answer) × (out ≡ filled longest n answer)
 unfolding answered filled
-left_whole longest n answer h (l, o) e = rw (le-ltb n longest h) (e ∙ ap whole_answer l, o)
+left_whole longest n answer h (l, o) = rw (le-ltb n longest h) (ap whole_answer l, o)
 
 -- and what was written among zeros
-pub left_wrote : (longest n : ℕ) {answer clean out : List ℕ} {a : Answer} {end : ℕ}
+pub left_wrote : (longest n : ℕ) {answer clean out : List ℕ} {end : ℕ}
     → longest ≤ n → clean ≡ replicate n 0 → Wrote clean out 0 answer end
-    → length answer ≤ longest → a ≡ whole_answer end → (a ≡ answered longest n answer) × (out ≡ filled longest n answer)
-left_wrote longest n {answer} h z w fits e =
+    → length answer ≤ longest → (whole_answer end ≡ answered longest n answer) × (out ≡ filled longest n answer)
+left_wrote longest n {answer} h z w fits =
     left_whole longest n answer h (
       w.stops ∙ (let k : 0 + length answer ≡ length answer = omega arith in k),
       w.holds ∙ ap (λ (x : List ℕ). sets x 0 answer) z ∙ stored_front 0 n answer (omega arith),
     )
-    e

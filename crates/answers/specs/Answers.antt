@@ -1,17 +1,16 @@
 -- What the programs print, byte for byte.
 -- Assumes nothing.
-use Rattle.std.specs.Prelude.{ℕ, ◌≡◌, cond, List, [], ◌∷◌, ◌++◌, ltb, length, take, replicate, Ok, Err}
+use Rattle.std.specs.Prelude.{ℕ, ◌≡◌, cond, List, [], ◌∷◌, ◌++◌, ltb, length, take, replicate, Result, Ok, Err}
 use Rattle.slices.specs.Part.{padded}
 use Rattle.digits.specs.Decimal.{decimal}
 use Rattle.columns.specs.Patterns.{codes}
-use Rattle.refusals.specs.Table.{buffer_too_short, Verdict, Accepted, Refused}
+use Rattle.refusals.specs.Table.{buffer_too_short, Verdict}
 use Rattle.refusals.specs.declared.Refusal.{Refusal}
 use Rattle.corrections.specs.Reading.{Reading, refused, said, read_log}
 use Rattle.routes.specs.Sources.{records}
 use Rattle.wanted.specs.Numbers.{numbers_in}
 use Rattle.selection.specs.Pick.{Pick, refused_by, picked, log_verdict, pick_of, new_bytes}
 use Rattle.selection.specs.declared.Picked.{Picked}
-use Rattle.answers.specs.declared.Answer.{Answer}
 
 -- ---- lines
 
@@ -70,12 +69,16 @@ newfile_answer frozen log want = file_text frozen log (pick_of frozen log (numbe
 
 -- ---- in a lent buffer
 
+-- how many bytes there are, or the refusal, which has none
+abbrev pub Answer : Type 0
+Answer = Result ℕ Refusal
+
 -- 14 at (0, 0)
 abbrev pub too_short : Answer
-too_short = record { verdict = Refused buffer_too_short; length = 0 }
+too_short = Err buffer_too_short
 
 abbrev pub whole_answer : (bytes : ℕ) → Answer
-whole_answer n = record { verdict = Accepted; length = n }
+whole_answer n = Ok n
 
 -- where fewer bytes are lent than the longest answer needs, none is given, whatever it would be
 unfoldable pub answered : (longest lent : ℕ) (answer : List ℕ) → Answer

@@ -7,11 +7,11 @@ mod texts;
 mod whys;
 
 ghost use Rattle.std.specs.Prelude.{◌≡◌, length, replicate};
-ghost use Rattle.answers.specs.Answers.{pick_answer, newfile_answer, check_answer, too_short, whole_answer, Leaves};
+ghost use Rattle.answers.specs.Answers.{pick_answer, newfile_answer, check_answer, too_short, Leaves};
 ghost use Rattle.answers.specs.Why.{why_answer};
 
 use corrections::{LONGEST_LOG, MOST_CORRECTIONS};
-use refusals::{Refusal, Verdict};
+use refusals::Refusal;
 use routes::LINE_WIDTH;
 use texts::{put_counts, put_no, put_picked};
 use whys::put_explained;
@@ -35,34 +35,16 @@ pub const LOG_READ: usize = LONGEST_LOG + 1;
 
 pub const WANT_READ: usize = 4 * MOST_CORRECTIONS + 1;
 
-// Whether an answer was written, and how many bytes it has; the line of a refusal is written as any other. Where fewer bytes are lent than the
-// longest answer needs, it is refused by 14, has no bytes, and the buffer is nothing but zeros.
-#[derive(Clone, Copy)]
-pub struct Answer {
-    pub verdict: Verdict,
-    pub length: usize,
-}
+// How many bytes an answer has; the line of a refusal is written as any other. Where fewer bytes are lent than the longest answer needs, it is
+// refused by 14, and the buffer is nothing but zeros.
+pub type Answer = Result<usize, Refusal>;
 
 // The answer where too little is lent: every byte of the buffer is made 0.
 fn too_short(out: &mut [u8]) -> Answer
     ensures { (result ≡ too_short) × (out.new ≡ replicate (length out.old) 0) }
 {
-    slices::clear(&mut *out);
-    let refusal = Refusal::buffer_too_short();
-    Answer {
-        verdict: Err(refusal),
-        length: 0,
-    }
-}
-
-// The answer that is written in so many bytes.
-fn written(length: usize) -> Answer
-    ensures { result ≡ whole_answer length }
-{
-    Answer {
-        verdict: Ok(()),
-        length,
-    }
+    slices::clear(out);
+    Err(Refusal::buffer_too_short())
 }
 
 // What `pick` prints: the corrections taken, or the refusal. Zeros past it.
@@ -70,14 +52,12 @@ pub fn pick_answer<'a>(frozen: &'a [u8], log: &'a [u8], want: &[u8], out: &mut [
     ensures { Leaves 1813 out.old out.new (pick_answer frozen.now log.now want.now) result }
 {
     if out.len() < LONGEST_PICK {
-        return too_short(&mut *out);
+        return too_short(out);
     }
     let wanted = wanted::numbers(want);
-    let count = wanted.count;
-    let numbers = wanted.at;
-    let picked = selection::pick(frozen, log, &numbers[..count]);
-    slices::clear(&mut *out);
-    written(put_picked(picked, &mut *out))
+    let picked = selection::pick(frozen, log, &wanted.at[..wanted.count]);
+    slices::clear(out);
+    Ok(put_picked(picked, out))
 }
 
 // What `newfile` prints: the new file, or the refusal. Zeros past it.
@@ -85,17 +65,13 @@ pub fn newfile_answer<'a>(frozen: &'a [u8], log: &'a [u8], want: &[u8], out: &mu
     ensures { Leaves 63840 out.old out.new (newfile_answer frozen.now log.now want.now) result }
 {
     if out.len() < LONGEST_FILE {
-        return too_short(&mut *out);
+        return too_short(out);
     }
     let wanted = wanted::numbers(want);
-    let count = wanted.count;
-    let numbers = wanted.at;
-    let picked = selection::new_file(frozen, log, &numbers[..count], &mut *out);
-    let verdict = picked.verdict;
-    let records = picked.records;
-    match verdict {
-        Ok(()) => written(records.count * LINE_WIDTH),
-        Err(r) => written(put_no(r, &mut *out)),
+    let picked = selection::new_file(frozen, log, &wanted.at[..wanted.count], out);
+    match picked.verdict {
+        Ok(()) => Ok(picked.records.count * LINE_WIDTH),
+        Err(r) => Ok(put_no(r, out)),
     }
 }
 
@@ -104,18 +80,16 @@ pub fn check_answer<'a>(frozen: &'a [u8], log: &'a [u8], out: &mut [u8]) -> Answ
     ensures { Leaves 66 out.old out.new (check_answer frozen.now log.now) result }
 {
     if out.len() < LONGEST_CHECK {
-        return too_short(&mut *out);
+        return too_short(out);
     }
-    slices::clear(&mut *out);
-    let verdict = selection::check_log(frozen, log);
-    match verdict {
+    slices::clear(out);
+    match selection::check_log(frozen, log) {
         Ok(()) => {
-            let sources = routes::sources_of(frozen);
-            let records = sources.count;
-            let index = corrections::index_of(log, records);
-            written(put_counts(b"ok", records, index.corrections, &mut *out))
+            let records = routes::sources_of(frozen).count;
+            let corrections = corrections::index_of(log, records).corrections;
+            Ok(put_counts(b"ok", records, corrections, out))
         }
-        Err(r) => written(put_no(r, &mut *out)),
+        Err(r) => Ok(put_no(r, out)),
     }
 }
 
@@ -124,12 +98,10 @@ pub fn why_answer<'a>(frozen: &'a [u8], log: &'a [u8], want: &[u8], out: &mut [u
     ensures { Leaves 8600 out.old out.new (why_answer frozen.now log.now want.now) result }
 {
     if out.len() < LONGEST_WHY {
-        return too_short(&mut *out);
+        return too_short(out);
     }
     let wanted = wanted::numbers(want);
-    let count = wanted.count;
-    let numbers = wanted.at;
-    let explained = selection::reasons(frozen, log, &numbers[..count]);
-    slices::clear(&mut *out);
-    written(put_explained(frozen, log, explained, &mut *out))
+    let explained = selection::reasons(frozen, log, &wanted.at[..wanted.count]);
+    slices::clear(out);
+    Ok(put_explained(frozen, log, explained, out))
 }

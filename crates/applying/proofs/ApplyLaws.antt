@@ -1,92 +1,85 @@
 -- Laws of lines applied one after the other, as the loop that applies them asks for them.
 -- Assumes nothing.
 use mathlib.Core.Path.{◌≡◌, refl, sym, ap, subst, ◌∙◌}
-use mathlib.Core.Bool.{true, false, false≢true}
-use mathlib.Core.List.{List}
-use mathlib.Core.Option.{Option, some, none, bind}
-use Prim.Native.Nat.{ℕ, ◌+◌, ◌-◌, ◌≤◌, ◌<◌}
+use mathlib.Core.Bool.{true, false}
+use mathlib.Core.List.{List, [], ◌∷◌}
+use mathlib.Core.Option.{some, none, bind}
+use Prim.Native.Nat.{ℕ, zero, suc, ◌+◌, ◌≤◌, ◌<◌}
 use Prim.Native.Char.{code}
 use native.Mathlib.Omega.{arith}
+use lib.ListN.{length, get_or, take, drop, drop_of_length-le}
+use lib.Seq.{drop-cons}
 use borrow.Author.Tests.{ne_eqb}
-use Rattle.slices.proofs.PartLaws.{one_less}
-use Rattle.corrections.specs.Reading.{entry}
-use Rattle.corrections.specs.declared.Index.{Index}
-use lib.ListN.{get_or}
-use Rattle.routes.specs.Sources.{log_source, record_at, in_use}
-use Rattle.routes.specs.declared.Sources.{Sources}
-use Rattle.applying.specs.State.{with_source, without_record, held, Gives, made, failed}
-use Rattle.applying.specs.Apply.{entry_at, entries_from, if_applied, line_applied, lines_applied, fails_at}
-use Rattle.applying.specs.declared.state.Change.{Change}
+use Rattle.std.specs.Prelude.{Ok, Err}
+use Rattle.corrections.specs.declared.Entry.{Entry}
+use Rattle.corrections.specs.Reading.{no_entry}
+use Rattle.applying.specs.State.{Standing, with_source, without_record, Gives}
+use Rattle.applying.specs.Apply.{WithinLog, source_of, record_of_line, if_applied, line_applied, lines_applied, fails_at}
+use Rattle.applying.specs.Correct.{Applies}
+
+-- the line at k, and those behind it
+pub line_next : (es : List Entry) (k : ℕ) → k < length es → drop k es ≡ get_or es k no_entry ∷ drop (k + 1) es
+line_next es k h = let s : suc k ≡ k + 1 = omega arith in drop-cons es k no_entry h ∙ ap (λ (i : ℕ). get_or es k no_entry ∷ drop i es) s
+
+-- some of the lines that lie within the longest log do so too
+pub front_within : (es : List Entry) (n : ℕ) → WithinLog es → WithinLog (take n es)
+front_within es zero h k = omega arith
+front_within [] (suc n) h k = omega arith
+front_within (e ∷ es) (suc n) h zero = h 0
+front_within (e ∷ es) (suc n) h (suc k) = front_within es n (λ i. h (suc i)) k
 
 -- ---- one line
 
-module _ (f l : List ℕ) (letter at n : ℕ) (xs : List ℕ) (c : Change) (row : List ℕ) where
-  module _ {s : ℕ} (p : s ≡ log_source at) where
-    pub line_out : (rec : List ℕ) → letter ≡ code "D" → rec ≡ record_at f l s → Gives c row (without_record f l rec xs) → Gives c row (line_applied f l (entry letter at n) xs)
-    unfolding line_applied
-    line_out rec h e g = rw (h, ← p, ← e) g
+module _ (f l : List ℕ) (e : Entry) (xs : List ℕ) where
+  pub line_out : e.letter ≡ code "D" → line_applied f l e xs ≡ without_record f l (record_of_line f l e) xs
+  unfolding line_applied
+  line_out h = rw h
 
-    pub line_in_lem : (letter ≡ code "D" → ⊥) → Gives c row (with_source f l s xs) → Gives c row (line_applied f l (entry letter at n) xs)
-    unfolding line_applied
-    line_in_lem h g = rw (ne_eqb letter (code "D") h, ← p) g
-
--- ---- what a change gave
-
-module _ (c : Change) (row : List ℕ) where
-  pub gave_none : (o : Option (List ℕ)) → Gives c row o → c.done ≡ false → o ≡ none
-  gave_none _ (made t n e) d = absurd (false≢true (sym d ∙ t))
-  gave_none _ (failed t) d = refl
-
-  pub gave_some : (o : Option (List ℕ)) → Gives c row o → c.done ≡ true → (o ≡ some (in_use (held c.count row))) × (c.count ≤ 480)
-  gave_some _ (made t n e) d = (ap some (sym e), n)
-  gave_some _ (failed t) d = absurd (false≢true (sym t ∙ d))
+  pub line_in_lem : (e.letter ≡ code "D" → ⊥) → line_applied f l e xs ≡ with_source f l (source_of e) xs
+  unfolding line_applied
+  line_in_lem h = rw (ne_eqb e.letter (code "D") h)
 
 -- ---- the lines that are left
 
-module _ (f l : List ℕ) (index : Index) (k to : ℕ) where
-  lines_next : (xs : List ℕ) → k < to
-      → lines_applied f l (entries_from index k (to - k)) xs ≡ bind (line_applied f l (entry_at index k) xs) (lines_applied f l (entries_from index (k + 1) (to - (k + 1))))
-  unfolding lines_applied entries_from
-  lines_next xs h = rw (one_less to k h)
+-- of some lines those before k have been applied: what is left comes to what all come to
+pub record Applying (old : Standing) (es : List Entry) (now : Standing) (k : ℕ) : Type 0 where
+  pub same : now ≡ record old { sources = now.sources }
+  pub lines : lines_applied old.frozen old.log es old.sources ≡ lines_applied old.frozen old.log (drop k es) now.sources
+  pub fails : fails_at old.frozen old.log es old.sources ≡ fails_at old.frozen old.log (drop k es) now.sources
 
-  lines_end : (xs : List ℕ) → to ≤ k → lines_applied f l (entries_from index k (to - k)) xs ≡ some xs
-  unfolding lines_applied entries_from
-  lines_end xs h = let e : to - k ≡ 0 = omega arith in rw e
+pub applying_starts : (old : Standing) (es : List Entry) → Applying old es old 0
+applying_starts old es = record { same = refl; lines = refl; fails = refl }
 
-  module _ (whole : Option (List ℕ)) (standing : Sources) (w : whole ≡ lines_applied f l (entries_from index k (to - k)) (in_use standing)) where
-    pub lines_done : (c : Change) (row : List ℕ) → to ≤ k → standing.count ≤ 480 → c.done ≡ true → held c.count row ≡ standing → Gives c row whole
-    lines_done c row h n d e =
-        subst (Gives c row) (sym (w ∙ lines_end (in_use standing) h)) (made d (subst (λ (s : Sources). s.count ≤ 480) (sym e) n) (ap in_use e))
+module _ {old now : Standing} {es : List Entry} {k : ℕ} (a : Applying old es now k) where
+  pub applying_ends : length es ≤ k → Applies old es (Ok tt) now
+  unfolding lines_applied
+  applying_ends h = (a.lines ∙ rw (drop_of_length-le es h), a.same)
 
-    module _ (h : k < to) (c : Change) (row : List ℕ) (g : Gives c row (line_applied f l (entry_at index k) (in_use standing))) where
-      pub lines_failed : c.done ≡ false → Gives c row whole
+  module _ (h : k < length es) where
+    abbrev it : Entry
+    it = get_or es k no_entry
+
+    lines_next : lines_applied old.frozen old.log (drop k es) now.sources ≡ bind (line_applied old.frozen old.log it now.sources) (lines_applied old.frozen old.log (drop (k + 1) es))
+    unfolding lines_applied
+    lines_next = rw (line_next es k h)
+
+    fails_next : fails_at old.frozen old.log (drop k es) now.sources ≡ if_applied (line_applied old.frozen old.log it now.sources) it.at (fails_at old.frozen old.log (drop (k + 1) es))
+    unfolding fails_at
+    fails_next = rw (line_next es k h)
+
+    module _ (new : Standing) where
+      pub applying_stops : Gives now (line_applied now.frozen now.log it now.sources) false new → (any : Standing) → Applies old es (Err it.at) any
       unfolding bind
-      lines_failed d =
-          let z : whole ≡ none = w ∙ lines_next (in_use standing) h ∙ ap (λ (o : Option (List ℕ)). bind o (lines_applied f l (entries_from index (k + 1) (to - (k + 1))))) (gave_none c row _ g d) in
-          subst (Gives c row) (sym z) (failed d)
+      applying_stops g any =
+          let none_here : line_applied old.frozen old.log it now.sources ≡ none = subst (λ (s : Standing). line_applied s.frozen s.log it now.sources ≡ none) a.same g.0 in
+          (a.lines ∙ lines_next ∙ rw none_here, sym (a.fails ∙ fails_next ∙ rw none_here))
 
-      pub lines_go_on : c.done ≡ true → (c.count ≤ 480) × (whole ≡ lines_applied f l (entries_from index (k + 1) (to - (k + 1))) (in_use (held c.count row)))
+      pub applying_goes_on : Gives now (line_applied now.frozen now.log it now.sources) true new → Applying old es new (k + 1)
       unfolding bind
-      lines_go_on d =
-          let s = gave_some c row _ g d in
-          (s.1, w ∙ lines_next (in_use standing) h ∙ ap (λ (o : Option (List ℕ)). bind o (lines_applied f l (entries_from index (k + 1) (to - (k + 1))))) s.0)
-
-  -- ---- which of them can't be applied
-
-  pub none_fails : (xs : List ℕ) → to ≤ k → fails_at f l (entries_from index k (to - k)) xs ≡ 0
-  unfolding fails_at entries_from
-  none_fails xs h = let e : to - k ≡ 0 = omega arith in rw e
-
-  module _ (h : k < to) (xs : List ℕ) (c : Change) (row : List ℕ) (g : Gives c row (line_applied f l (entry_at index k) xs)) where
-    abbrev later : List ℕ → ℕ
-    later = fails_at f l (entries_from index (k + 1) (to - (k + 1)))
-
-    fails_next : fails_at f l (entries_from index k (to - k)) xs ≡ if_applied (line_applied f l (entry_at index k) xs) (get_or index.at k 0) later
-    unfolding fails_at entries_from
-    fails_next = rw (one_less to k h)
-
-    pub fails_here : c.done ≡ false → fails_at f l (entries_from index k (to - k)) xs ≡ get_or index.at k 0
-    fails_here d = fails_next ∙ ap (λ (o : Option (List ℕ)). if_applied o (get_or index.at k 0) later) (gave_none c row _ g d)
-
-    pub fails_later : c.done ≡ true → fails_at f l (entries_from index k (to - k)) xs ≡ later (in_use (held c.count row))
-    fails_later d = fails_next ∙ ap (λ (o : Option (List ℕ)). if_applied o (get_or index.at k 0) later) (gave_some c row _ g d).0
+      applying_goes_on g =
+          let here : line_applied old.frozen old.log it now.sources ≡ some new.sources = subst (λ (s : Standing). line_applied s.frozen s.log it now.sources ≡ some new.sources) a.same g.0 in
+          record {
+            same = g.1 ∙ ap (λ (s : Standing). record s { sources = new.sources }) a.same;
+            lines = a.lines ∙ lines_next ∙ rw here;
+            fails = a.fails ∙ fails_next ∙ rw here;
+          }

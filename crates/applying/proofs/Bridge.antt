@@ -15,7 +15,7 @@ use lib.Dec.{eqb}
 use lib.ListN.{length, length-map}
 use Rattle.slices.proofs.Cases.{split}
 use Rattle.refusals.proofs.VerdictLaws.{never}
-use Rattle.corrections.specs.Reading.{Entry}
+use Rattle.corrections.specs.declared.Entry.{Entry}
 use Rattle.routes.specs.Legal.{Wide}
 use Rattle.routes.specs.Sources.{record_at}
 use Rattle.history.specs.Format as H

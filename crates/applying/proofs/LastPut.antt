@@ -3,7 +3,7 @@
 use mathlib.Core.Path.{◌≡◌, sym, ap, subst, ◌∙◌}
 use mathlib.Core.List.{List, [], ◌∷◌, ◌++◌}
 use Prim.Native.Nat.{ℕ}
-use Rattle.corrections.specs.Reading.{Entry}
+use Rattle.corrections.specs.declared.Entry.{Entry}
 use Rattle.routes.specs.Places.{place_of, Every}
 use Rattle.routes.specs.Sources.{record_at}
 use Rattle.applying.specs.Apply.{source_of}

@@ -2,10 +2,10 @@
 mod ShiftLaws
 pub mod StateLaws
 pub mod ApplyLaws
-mod RangeLaws
 mod JudgeLaws
 mod CorrectLaws
 mod RisingLaws
+mod StandLaws
 mod RouteLaws
 pub mod RunLaws
 pub mod BoundLaws

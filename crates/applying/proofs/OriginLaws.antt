@@ -21,7 +21,7 @@ use Rattle.std.specs.declared.cmp.Ordering.TheVariants.{Less, Equal, Greater}
 use Rattle.slices.proofs.Cases.{split}
 use Rattle.slices.proofs.OrderLaws.{irreflexive, turned, order_turned, order_equal}
 use Rattle.refusals.specs.declared.Refusal.{Refusal}
-use Rattle.corrections.specs.Reading.{Entry}
+use Rattle.corrections.specs.declared.Entry.{Entry}
 use Rattle.routes.specs.Places.{place_of, Every}
 use Rattle.routes.specs.Sources.{record_at}
 use Rattle.history.specs.Format as H

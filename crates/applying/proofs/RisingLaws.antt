@@ -5,7 +5,7 @@ use Rattle.std.specs.Prelude.{Ok, Err}
 use Rattle.refusals.specs.Table.{Verdict}
 use mathlib.Core.Path.{◌≡◌, refl, sym, ap, ap₂, subst, ◌∙◌}
 use mathlib.Core.Logic.{◌⊎◌, inl, inr, ⊎_elim}
-use mathlib.Core.Bool.{Bool, true, false, cond, false≢true}
+use mathlib.Core.Bool.{Bool, true, false, cond, not, false≢true}
 use mathlib.Core.List.{List, [], ◌∷◌, map}
 use mathlib.Core.Option
 use mathlib.Core.Option.{Option, none, some, bind}
@@ -15,17 +15,18 @@ use native.Mathlib.Omega.{arith}
 use native.Mathlib.Nat.{zero-add}
 use lib.Dec.{eqb, leb}
 use lib.ListN.{length, get_or, drop}
+use Rattle.slices.proofs.PartLaws.{get_or_any}
 use borrow.Author.Tests.{leb-false}
+use Rattle.std.specs.List.Sorted.{IsPartitionPoint, IsPartitionedBy}
 use Rattle.slices.specs.Order.{order}
 use Rattle.std.specs.declared.cmp.Ordering.{Ordering}
 use Rattle.std.specs.declared.cmp.Ordering.TheVariants.{Less, Equal, Greater}
-use Rattle.slices.proofs.Cases.{split}
+use Rattle.slices.proofs.Cases.{split, is_true, is_false}
 use Rattle.slices.proofs.OrderLaws.{transitive}
 use Rattle.slices.proofs.SearchLaws.{Come, starts, goes_on, finds, ends}
-use Rattle.corrections.specs.Reading.{Entry}
+use Rattle.corrections.specs.declared.Entry.{Entry}
 use Rattle.routes.specs.Places.{place_of, Before, Every, Rising}
-use Rattle.routes.specs.Sources.{record_at, in_use}
-use Rattle.routes.specs.declared.Sources.{Sources}
+use Rattle.routes.specs.Sources.{record_at}
 use Rattle.routes.proofs.PlaceLaws.{rising_cons}
 use Rattle.history.specs.Format as H
 use Rattle.history.specs.Apply.{put_in, apply}
@@ -37,7 +38,7 @@ use Rattle.applying.specs.Correct.{Outcome, stopped, reached, after_lines, after
 use Rattle.applying.specs.Procedures.{procedures}
 use Rattle.applying.proofs.PlacedLaws.{records_of, put_records}
 use Rattle.applying.proofs.Procedures.{rising, rising_back}
-use Rattle.applying.proofs.StateLaws.{Searched, in_use-length, in_use_at}
+use Rattle.applying.proofs.StateLaws.{Searched}
 
 -- an answer that is not a later place is an earlier one
 pub less_of : (o : Ordering) → not_less o ≡ false → o ≡ Less
@@ -173,6 +174,12 @@ module _ (f l : List ℕ) where
   pub lines_in_order : (rising : Bool) (es : List Entry) (xs ys : List ℕ) → lines_applied f l es xs ≡ some ys → InOrder f l rising xs → InOrder f l rising ys
   lines_in_order rising es xs ys e h t = lines_rise es xs ys e (h t)
 
+  pub source_in_order : (rising : Bool) (s : ℕ) (xs ys : List ℕ) → with_source f l s xs ≡ some ys → InOrder f l rising xs → InOrder f l rising ys
+  source_in_order rising s xs ys q h t = put_rises s xs ys q (h t)
+
+  pub record_in_order : (rising : Bool) (rec xs ys : List ℕ) → without_record f l rec xs ≡ some ys → InOrder f l rising xs → InOrder f l rising ys
+  record_in_order rising rec xs ys q h t = taken_rises rec xs ys q (h t)
+
   pub line_in_order : (rising : Bool) (e : Entry) (xs ys : List ℕ) → line_applied f l e xs ≡ some ys → InOrder f l rising xs → InOrder f l rising ys
   line_in_order rising e xs ys q h t = line_rises e xs ys q (h t)
 
@@ -196,7 +203,7 @@ module _ (f l : List ℕ) where
     before_too j m h k e =
         ap not_less (transitive (place (get_or xs j 0)) (place (get_or xs m 0)) (place_of rec) (rises_at xs j m u h k) (less_of (order (place (get_or xs m 0)) (place_of rec)) e))
 
-    come_by : (m : ℕ) → m ≤ length xs → ((j : ℕ) → j < m → not_before f l rec (get_or xs j 0) ≡ false) → Come (not_before f l rec) 0 xs 0 m
+    pub come_by : (m : ℕ) → m ≤ length xs → ((j : ℕ) → j < m → not_before f l rec (get_or xs j 0) ≡ false) → Come (not_before f l rec) 0 xs 0 m
     come_by zero h e = starts (not_before f l rec) 0 xs 0
     come_by (suc m) h e =
         let q : m + 1 ≡ suc m = omega arith in
@@ -209,54 +216,60 @@ module _ (f l : List ℕ) where
         come_by (m + 1) (omega arith) (λ j k.
         ⊎_elim (λ (s : j < m). before_too j m s h e) (λ (s : j ≡ m). subst (λ (i : ℕ). not_before f l rec (get_or xs i 0) ≡ false) (sym s) e) (below j m k))
 
--- ---- as the loops ask for it, of the sources that count
+-- ---- as the code asks for it
 
 -- the places of the first i rise
-abbrev pub Tested : (f l : List ℕ) (st : Sources) → ℕ → Type 0
-Tested f l st i = (j : ℕ) → suc j < i → Before (place f l (get_or st.at j 0)) (place f l (get_or st.at (suc j) 0))
+abbrev pub Tested : (f l xs : List ℕ) → ℕ → Type 0
+Tested f l xs i = (j : ℕ) → suc j < i → Before (place f l (get_or xs j 0)) (place f l (get_or xs (suc j) 0))
 
 -- none from the one at i on stands before the record
-abbrev pub Reached : (f l : List ℕ) (st : Sources) (rec : List ℕ) → ℕ → Type 0
-Reached f l st rec i = (i ≡ st.count) ⊎ (not_before f l rec (get_or (in_use st) i 0) ≡ true)
+abbrev pub Reached : (f l xs rec : List ℕ) → ℕ → Type 0
+Reached f l xs rec i = (i ≡ length xs) ⊎ (not_before f l rec (get_or xs i 0) ≡ true)
 
-module _ (f l : List ℕ) (st : Sources) (h : st.count ≤ 480) (long : length st.at ≡ 480) where
-  pub tested_next : (i : ℕ) → 1 ≤ i → Tested f l st i → {a b : List ℕ} → a ≡ record_at f l (get_or st.at (i - 1) 0) → b ≡ record_at f l (get_or st.at i 0)
-      → {t : Bool} → t ≡ not_less (order (place_of a) (place_of b)) → t ≡ false → Tested f l st (i + 1)
+module _ (f l xs : List ℕ) where
+  pub tested_next : (i : ℕ) → 1 ≤ i → Tested f l xs i → {a b : List ℕ} → a ≡ record_at f l (get_or xs (i - 1) 0) → b ≡ record_at f l (get_or xs i 0)
+      → {t : Bool} → t ≡ not_less (order (place_of a) (place_of b)) → t ≡ false → Tested f l xs (i + 1)
   tested_next (suc i) k w {a} {b} p q t e j n =
       let o : order (place_of a) (place_of b) ≡ Less = less_of (order (place_of a) (place_of b)) (sym t ∙ e) in
       let z : suc i - 1 ≡ i = omega arith in
-      let now : Before (place f l (get_or st.at i 0)) (place f l (get_or st.at (suc i) 0)) =
-      sym (ap₂ (λ (x y : List ℕ). order (place_of x) (place_of y)) (p ∙ ap (λ (m : ℕ). record_at f l (get_or st.at m 0)) z) q) ∙ o in
-      ⊎_elim (λ (s : j < i). w j (omega arith)) (λ (s : j ≡ i). subst (λ (m : ℕ). Before (place f l (get_or st.at m 0)) (place f l (get_or st.at (suc m) 0))) (sym s) now) (below j i (omega arith))
+      let now : Before (place f l (get_or xs i 0)) (place f l (get_or xs (suc i) 0)) =
+      sym (ap₂ (λ (x y : List ℕ). order (place_of x) (place_of y)) (p ∙ ap (λ (m : ℕ). record_at f l (get_or xs m 0)) z) q) ∙ o in
+      ⊎_elim (λ (s : j < i). w j (omega arith)) (λ (s : j ≡ i). subst (λ (m : ℕ). Before (place f l (get_or xs m 0)) (place f l (get_or xs (suc m) 0))) (sym s) now) (below j i (omega arith))
   tested_next zero k w p q t e j n = absurd (omega arith)
 
-  pub tested_all : (i : ℕ) → st.count ≤ i → Tested f l st i → Rises f l (in_use st)
-  tested_all i k w =
-      neighbours_rise f l (in_use st) (λ j n.
-      let m : suc j < st.count = omega (arith, in_use-length st h long) in
-      rw (in_use_at st h long j (omega arith), in_use_at st h long (suc j) m) (w j (omega arith)))
+  pub tested_all : (i : ℕ) → length xs ≤ i → Tested f l xs i → Rises f l xs
+  tested_all i k w = neighbours_rise f l xs (λ j n. w j (omega arith))
 
   module _ (rec : List ℕ) where
-    module _ (m : ℕ) (k : m < st.count) {x : List ℕ} (e : x ≡ record_at f l (get_or st.at m 0)) {b : Bool} (t : b ≡ not_less (order (place_of x) (place_of rec))) where
-      at_middle : not_before f l rec (get_or (in_use st) m 0) ≡ b
-      unfolding not_before
-      at_middle = rw (in_use_at st h long m k, ← e, ← t)
-
-      pub half_reached : b ≡ true → Reached f l st rec m
-      half_reached q = inr (at_middle ∙ q)
-
-      pub half_passed : Rises f l (in_use st) → b ≡ false → Searched st f l rec (m + 1)
-      half_passed u q = come_past f l rec (in_use st) u m (omega (arith, in_use-length st h long)) (at_middle ∙ q)
-
-    pub halves_end : (low high : ℕ) → Searched st f l rec low → Reached f l st rec high → low ≤ high → high ≤ low → high ≤ st.count → low ≡ count_before f l rec (in_use st)
+    pub halves_end : (low high : ℕ) → Searched f l rec xs low → Reached f l xs rec high → low ≤ high → high ≤ low → high ≤ length xs → low ≡ count_before f l rec xs
     unfolding count_before
     halves_end low high c r a b n =
         let e : high ≡ low = omega arith in
         ⊎_elim
-        (λ (q : high ≡ st.count). ends (not_before f l rec) 0 (in_use st) 0 low c (omega (arith, in_use-length st h long)) ∙ zero-add _)
-        (λ (q : not_before f l rec (get_or (in_use st) high 0) ≡ true).
+        (λ (q : high ≡ length xs). ends (not_before f l rec) 0 xs 0 low c (omega arith) ∙ zero-add _)
+        (λ (q : not_before f l rec (get_or xs high 0) ≡ true).
         ⊎_elim
-        (λ (k : low < st.count). finds (not_before f l rec) 0 (in_use st) 0 low c (omega (arith, in_use-length st h long)) (subst (λ (i : ℕ). not_before f l rec (get_or (in_use st) i 0) ≡ true) e q) ∙ zero-add _)
-        (λ (k : low ≡ st.count). ends (not_before f l rec) 0 (in_use st) 0 low c (omega (arith, in_use-length st h long)) ∙ zero-add _)
-        (below low st.count (omega arith)))
+        (λ (k : low < length xs). finds (not_before f l rec) 0 xs 0 low c k (subst (λ (i : ℕ). not_before f l rec (get_or xs i 0) ≡ true) e q) ∙ zero-add _)
+        (λ (k : low ≡ length xs). ends (not_before f l rec) 0 xs 0 low c (omega arith) ∙ zero-add _)
+        (below low (length xs) (omega arith)))
         r
+
+    -- the test that is halved by passes those that stand before the record
+    abbrev pub stands_before : ℕ → Bool
+    stands_before s = not (not_before f l rec s)
+
+    -- Where places rise, those that pass stand in front.
+    pub parted : Rises f l xs → IsPartitionedBy stands_before xs
+    parted u i j d a b t =
+        ⊎_elim
+        (λ (k : i < j).
+        rw (get_or_any xs i d 0 (omega arith)) (ap not (before_too f l rec xs u i j k b (is_false _ (rw (get_or_any xs j d 0 b) at t)))))
+        (λ (k : i ≡ j). subst (λ (m : ℕ). stands_before (get_or xs m d) ≡ true) (sym k) t)
+        (below i j (omega arith))
+
+    -- What is found by halves is what a search in turn comes to.
+    pub halved : (i : ℕ) → Rises f l xs → i ≤ length xs → IsPartitionPoint (λ s. stands_before s ≡ true) (λ s. stands_before s ≡ false) xs i → i ≡ count_before f l rec xs
+    halved i u h p = halves_end i i (come_by f l rec xs u i h (λ j k. is_false _ (p.0 j 0 (omega arith) k))) reached (omega arith) (omega arith) h
+      where
+        reached : Reached f l xs rec i
+        reached = ⊎_elim (λ (k : i < length xs). inr (is_true _ (p.1 i 0 (omega arith) k))) (λ (k : i ≡ length xs). inl k) (below i (length xs) (omega arith))

@@ -1,5 +1,6 @@
 -- The records of a route among those of rising places: they lie together from the place of the route's key on, which is before all of them.
 -- Assumes nothing.
+use Rattle.std.specs.Prelude.{Ok, Err, is_ok}
 use Rattle.refusals.specs.Table.{Verdict, Accepted}
 use mathlib.Core.Path.{◌≡◌, refl, sym, ap, ap₂, subst, ◌∙◌}
 use mathlib.Core.Logic.{◌⊎◌, inl, inr, ⊎_elim}
@@ -18,15 +19,14 @@ use Rattle.slices.proofs.Cases.{split}
 use Rattle.slices.proofs.OrderLaws.{after, order_greater, order_level, order_refl, order_turned, turned, order_equal, equal_iff, irreflexive, transitive}
 use Rattle.slices.proofs.PartLaws.{length_part}
 use Rattle.routes.specs.Places.{key_of, place_of, of_route, Before, Every}
-use Rattle.routes.specs.Sources.{record_at, in_use, sources_in}
-use Rattle.routes.specs.declared.Sources.{Sources}
+use Rattle.routes.specs.Sources.{record_at}
 use Rattle.routes.specs.Walk.{walked}
 use Rattle.routes.proofs.PlaceLaws.{place_key, of_route_out, none_behind}
-use Rattle.applying.specs.State.{not_less, not_before, count_before, held}
+use Rattle.applying.specs.State.{not_less, not_before, count_before}
 use Rattle.applying.specs.Apply.{same_route, together, RouteStands}
 use Rattle.applying.proofs.PlacedLaws.{records_of}
 use Rattle.applying.proofs.RisingLaws.{Rises, less_of, below}
-use Rattle.applying.proofs.StateLaws.{places, in_use-length, count_within, row_part}
+use Rattle.applying.proofs.StateLaws.{places, count_within}
 use Rattle.applying.proofs.JudgeLaws.{run_of, together_within}
 
 -- ---- the place of a key alone
@@ -134,35 +134,38 @@ module _ (f l : List ℕ) (s : ℕ) (h : 25 ≤ length (record_at f l s)) where
 
 -- ---- a route as it is found
 
-module _ (f l : List ℕ) (st : Sources) (few : st.count ≤ 480) (long : length st.at ≡ 480) (front : List ℕ) {i : ℕ} (p : i ≡ count_before f l front (in_use st)) where
-  pub first_within : i ≤ st.count
-  first_within = omega (arith, p, count_within f l front (in_use st), in_use-length st few long)
+module _ (f l xs front : List ℕ) {i : ℕ} (p : i ≡ count_before f l front xs) where
+  pub first_within : i ≤ length xs
+  first_within = omega (arith, p, count_within f l front xs)
 
-  pub end_within : (s : ℕ) {end : ℕ} → end ≡ i + together f l s (drop i (in_use st)) → (i ≤ end) × (end ≤ st.count)
+  pub end_within : (s : ℕ) {end : ℕ} → end ≡ i + together f l s (drop i xs) → (i ≤ end) × (end ≤ length xs)
   end_within s q =
-      let w = together_within f l s (drop i (in_use st)) in
-      (omega (arith, q), omega (arith, q, w, length-drop i (in_use st), in_use-length st few long, first_within))
+      let w = together_within f l s (drop i xs) in
+      (omega (arith, q), omega (arith, q, w, length-drop i xs, first_within))
 
-module _ (f l : List ℕ) (st : Sources) (few : st.count ≤ 480) (long : length st.at ≡ 480) (s : ℕ) (u : Rises f l (in_use st)) where
-  -- the sources from the first that is found on are those of the route
-  pub route_found : {r : List ℕ} → r ≡ record_at f l s → 25 ≤ length r → {i end : ℕ} → i ≡ count_before f l (take 25 r) (in_use st) → end ≡ i + together f l s (drop i (in_use st))
-      → {v : Verdict} → v ≡ walked (map (record_at f l) (sources_in (held 480 st.at) i end)) → v ≡ Accepted → RouteStands f l (in_use st) s
-  route_found {r} e h {i} {end} p q w a =
-      let h' : 25 ≤ length (record_at f l s) = subst (λ (x : List ℕ). 25 ≤ length x) e h in
-      let p' : i ≡ count_before f l (take 25 (record_at f l s)) (in_use st) = p ∙ ap (λ (x : List ℕ). count_before f l (take 25 x) (in_use st)) e in
-      let b = end_within f l st few long (take 25 r) p s q in
-      let m = together f l s (drop i (in_use st)) in
-      ap walked
-      (route_by_key f l s h' (in_use st) u
-      ∙ ap (λ (k : ℕ). map (record_at f l) (take (together f l s (drop k (in_use st))) (drop k (in_use st)))) (sym p')
-      ∙ ap (map (record_at f l)) (sym (run_of f l (in_use st) i m) ∙ ap (λ (k : ℕ). sources_in st i k) (sym q) ∙ sym (row_part st.at st.count i end b.1 few)))
-      ∙ sym w ∙ a
+stood : (v : Verdict) → is_ok v ≡ true → v ≡ Accepted
+stood (Ok _) e = refl
+stood (Err r) e = absurd (false≢true e)
+
+-- the sources from the first that is found on are those of the route
+pub route_found : (f l xs : List ℕ) (s : ℕ) → Rises f l xs → {r : List ℕ} → r ≡ record_at f l s → 25 ≤ length r
+    → {i end : ℕ} → i ≡ count_before f l (take 25 r) xs → end ≡ i + together f l s (drop i xs)
+    → {v : Verdict} → v ≡ walked (map (record_at f l) (drop i (take end xs))) → is_ok v ≡ true → RouteStands f l xs s
+route_found f l xs s u {r} e h {i} {end} p q {v} w a =
+    let h' : 25 ≤ length (record_at f l s) = subst (λ (x : List ℕ). 25 ≤ length x) e h in
+    let p' : i ≡ count_before f l (take 25 (record_at f l s)) xs = p ∙ ap (λ (x : List ℕ). count_before f l (take 25 x) xs) e in
+    let m = together f l s (drop i xs) in
+    ap walked
+    (route_by_key f l s h' xs u
+    ∙ ap (λ (k : ℕ). map (record_at f l) (take (together f l s (drop k xs)) (drop k xs))) (sym p')
+    ∙ ap (map (record_at f l)) (sym (run_of f l xs i m) ∙ ap (λ (k : ℕ). drop i (take k xs)) (sym q)))
+    ∙ sym w ∙ stood v a
 
 -- a route stands by whichever of its records it is named
 pub same_stands : (f l xs : List ℕ) (s t : ℕ) → same_route f l s t ≡ true → RouteStands f l xs s → RouteStands f l xs t
 same_stands f l xs s t e h =
     subst (λ (k : List ℕ). walked (of_route k (records_of f l xs)) ≡ Accepted) ((equal_iff (key_of (record_at f l s)) (key_of (record_at f l t))).0 e) h
 
--- what holds of the numbers from one on up to another, and of that one, holds of one more
-pub one_more : (P : ℕ → Type 0) (from k : ℕ) → ((j : ℕ) → from ≤ j → j < k → P j) → P k → (j : ℕ) → from ≤ j → j < k + 1 → P j
-one_more P from k h p j a b = ⊎_elim (λ (s : j < k). h j a s) (λ (s : j ≡ k). subst P (sym s) p) (below j k b)
+-- what holds of the numbers below one, and of that one, holds of those below the next
+pub one_more : (P : ℕ → Type 0) (k : ℕ) → ((j : ℕ) → j < k → P j) → P k → (j : ℕ) → j < k + 1 → P j
+one_more P k h p j b = ⊎_elim (λ (s : j < k). h j s) (λ (s : j ≡ k). subst P (sym s) p) (below j k b)

@@ -1,76 +1,44 @@
--- Laws of putting one more into a list and of leaving one out, as the loops that shift do it.
+-- Laws of a row of sources that is shifted: one more put in, and one left out.
 -- Assumes nothing.
-use mathlib.Core.Path.{◌≡◌, refl, sym, ap, ◌∙◌}
-use mathlib.Core.List.{List, [], ◌∷◌}
-use Prim.Native.Nat.{ℕ, zero, suc, ◌+◌, ◌-◌, ◌≤◌, ◌<◌}
+use mathlib.Core.Path.{◌≡◌, sym, ap, ap₂, ◌∙◌}
+use mathlib.Core.List.{List, [], ◌∷◌, ◌++◌}
+use Prim.Native.Nat.{ℕ, suc, ◌+◌, ◌-◌, ◌≤◌, ◌<◌}
 use native.Mathlib.Omega.{arith}
 use native.Mathlib.Numerals.{add-one}
-use lib.ListN.{length, take, drop, get_or, set}
-use lib.Seq.{take-suc-set, drop-set-lt, drop-cons, append_snoc, length-take-le, take_at}
+use lib.ListN.{length, take, drop, set, length-drop}
+use lib.Seq.{paste, take-take, length-take-le, take-set-lt, take-suc-set, set-append_left, append_snoc}
+use Rattle.std.proofs.lemmas.List.{drop-take}
+use Rattle.std.proofs.lemmas.List.Edits.{take-paste}
 use Rattle.applying.specs.State.{put_at, left_out}
 
--- a turn of the loop that puts in: the carried element is stored, and what stood there is carried
-pub put_step : (l : List ℕ) (i x : ℕ) → i < length l → put_at (i + 1) (get_or l i 0) (set l i x) ≡ put_at i x l
+-- what is behind a place, of so many in front
+pub behind : (row : List ℕ) (count i : ℕ) → i ≤ count → drop i (take count row) ≡ take (count - i) (drop i row)
+behind row count i h = let e : i + (count - i) ≡ count = omega arith in ap (λ (k : ℕ). drop i (take k row)) (sym e) ∙ drop-take i (count - i) row
+
+-- what stood at i and behind it moved one on, and one more stored there
+pub row_put : (row : List ℕ) (count i s : ℕ) → i ≤ count → count < length row
+    → take (count + 1) (set (paste row (i + 1) (drop i row) (count - i)) i s) ≡ put_at i s (take count row)
 unfolding put_at
-put_step l i x h =
-    rw (add-one, take-suc-set l i x h, drop-set-lt (suc i) l i x (omega arith), drop-cons l i 0 h, append_snoc)
+row_put row count i s h k =
+    let moved : List ℕ = paste row (i + 1) (drop i row) (count - i) in
+    let n : i + 1 + (count - i) ≡ count + 1 = omega arith in
+    let stored : set (take (i + 1) row) i s ≡ take i row ++ s ∷ [] = sym (take-set-lt (i + 1) row i s (omega arith)) ∙ rw add-one (take-suc-set row i s (omega arith)) in
+    take-set-lt (count + 1) moved i s (omega arith)
+    ∙ ap (λ (m : ℕ). set (take m moved) i s) (sym n)
+    ∙ ap (λ (ys : List ℕ). set ys i s) (take-paste row (i + 1) (drop i row) (count - i) (omega arith) (omega (arith, length-drop i row)))
+    ∙ set-append_left (take (i + 1) row) (take (count - i) (drop i row)) i s (omega (arith, length-take-le (i + 1) row (omega arith)))
+    ∙ ap (λ (ys : List ℕ). ys ++ take (count - i) (drop i row)) stored
+    ∙ append_snoc (take i row) s (take (count - i) (drop i row))
+    ∙ ap₂ (λ (xs ys : List ℕ). xs ++ s ∷ ys) (sym (take-take i count row h)) (sym (behind row count i h))
 
--- the last store
-put_last' : (l : List ℕ) (n x : ℕ) → n < length l → take (suc n) (set l n x) ≡ take (suc n) (put_at n x l)
-unfolding put_at
-put_last' [] n x h = absurd (omega arith)
-put_last' (a ∷ l) zero x h = refl
-put_last' (a ∷ l) (suc n) x h = ap (λ (t : List ℕ). a ∷ t) (put_last' l n x (omega arith))
-
-pub put_last : (l : List ℕ) (n x : ℕ) → n < length l → take (n + 1) (set l n x) ≡ take (n + 1) (put_at n x l)
-put_last l n x h = rw add-one (put_last' l n x h)
-
-put_front' : (l : List ℕ) (i n x : ℕ) → i ≤ n → n ≤ length l → take (suc n) (put_at i x l) ≡ put_at i x (take n l)
-unfolding put_at
-put_front' l zero n x h k = refl
-put_front' [] (suc i) n x h k = absurd (omega arith)
-put_front' (a ∷ l) (suc i) zero x h k = absurd (omega arith)
-put_front' (a ∷ l) (suc i) (suc n) x h k = ap (λ (t : List ℕ). a ∷ t) (put_front' l i n x (omega arith) (omega arith))
-
--- putting into the whole list, and putting into its first n elements
-pub put_front : (l : List ℕ) (i n x : ℕ) → i ≤ n → n ≤ length l → take (n + 1) (put_at i x l) ≡ put_at i x (take n l)
-put_front l i n x h k = rw add-one (put_front' l i n x h k)
-
--- a turn of the loop that takes out
-pub out_step : (l : List ℕ) (i : ℕ) → i + 1 < length l → left_out (i + 1) (set l i (get_or l (i + 1) 0)) ≡ left_out i l
+-- what stood behind i moved one back
+pub row_out : (row : List ℕ) (count i : ℕ) → i < count → count ≤ length row
+    → take (count - 1) (paste row i (drop (i + 1) row) (count - (i + 1))) ≡ left_out i (take count row)
 unfolding left_out
-out_step l i h =
-    rw (
-      add-one,
-      take-suc-set l i (get_or l (suc i) 0) (omega arith),
-      drop-set-lt (suc (suc i)) l i (get_or l (suc i) 0) (omega arith),
-      drop-cons l (suc i) 0 (omega arith),
-      append_snoc,
-    )
-
-out_front' : (l : List ℕ) (i n : ℕ) → i ≤ n → n < length l → take n (left_out i l) ≡ left_out i (take (suc n) l)
-unfolding left_out
-out_front' [] i n h k = absurd (omega arith)
-out_front' (a ∷ l) zero n h k = refl
-out_front' (a ∷ l) (suc i) zero h k = absurd (omega arith)
-out_front' (a ∷ l) (suc i) (suc n) h k = ap (λ (t : List ℕ). a ∷ t) (out_front' l i n (omega arith) (omega arith))
-
-pub out_front : (l : List ℕ) (i n : ℕ) → i ≤ n → n < length l → take n (left_out i l) ≡ left_out i (take (n + 1) l)
-out_front l i n h k = rw add-one (out_front' l i n h k)
-
-pub out_last : (l : List ℕ) (n : ℕ) → n < length l → take n (left_out n l) ≡ take n l
-unfolding left_out
-out_last l n h = take_at (take n l) (drop (suc n) l) n (length-take-le n l (omega arith))
-
--- what the loop that puts in, and the store after it, have made
-pub put_done : (l l₀ : List ℕ) (i pos carry code n : ℕ) → put_at i carry l ≡ put_at pos code l₀ → i ≡ n → pos ≤ n → n < 480 → length l ≡ 480 → length l₀ ≡ 480 → take (n + 1) (set l n carry) ≡ put_at pos code (take n l₀)
-put_done l l₀ i pos carry code n e q h k p p₀ =
-    put_last l n carry (omega arith) ∙ ap (λ (j : ℕ). take (n + 1) (put_at j carry l)) (sym q) ∙ ap (take (n + 1)) e ∙ put_front l₀ pos n code h (omega arith)
-
--- what the loop that takes out has made
-pub out_done : (l l₀ : List ℕ) (i pos n m : ℕ) → left_out i l ≡ left_out pos l₀ → i ≡ m - 1 → n ≡ m - 1 → pos < m → m ≤ 480 → length l ≡ 480 → length l₀ ≡ 480 → take n l ≡ left_out pos (take m l₀)
-out_done l l₀ i pos n m e q r h k p p₀ =
-    let q' : i ≡ n = omega arith in
-    let r' : n + 1 ≡ m = omega arith in
-    sym (out_last l n (omega arith)) ∙ ap (λ (j : ℕ). take n (left_out j l)) (sym q') ∙ ap (take n) e ∙ out_front l₀ pos n (omega arith) (omega arith)
-    ∙ ap (λ (j : ℕ). left_out pos (take j l₀)) r'
+row_out row count i h k =
+    let n : i + (count - (i + 1)) ≡ count - 1 = omega arith in
+    let s : i + 1 ≡ suc i = omega arith in
+    ap (λ (m : ℕ). take m (paste row i (drop (i + 1) row) (count - (i + 1)))) (sym n)
+    ∙ take-paste row i (drop (i + 1) row) (count - (i + 1)) (omega arith) (omega (arith, length-drop (i + 1) row))
+    ∙ ap₂ (λ (xs ys : List ℕ). xs ++ ys) (sym (take-take i count row (omega arith))) (sym (behind row count (i + 1) (omega arith)))
+    ∙ ap (λ (m : ℕ). take i (take count row) ++ drop m (take count row)) s

@@ -1,113 +1,116 @@
--- Laws of states: their sources, the search for a record's place, and what a change of one answers.
+-- Laws of states: the order of places, the search for a record's place, what stands at a place, and a change of the sources.
 -- Assumes nothing.
-use mathlib.Core.Path.{◌≡◌, sym, ap, ◌∙◌}
+use mathlib.Core.Path.{◌≡◌, refl, sym, ap, ◌∙◌}
 use mathlib.Core.Bool.{Bool, true, false, false≢true}
 use mathlib.Core.List.{List, [], ◌∷◌}
+use mathlib.Core.Option.{some, none}
 use Prim.Native.Nat.{ℕ, zero, suc, ◌+◌, ◌≤◌, ◌<◌}
 use native.Mathlib.Omega.{arith}
 use native.Mathlib.Nat.{zero-add}
 use lib.ListN.{length, get_or, drop, drop_of_length-le}
-use lib.Seq.{drop-cons, get_or-take, length-take-le, take-take}
+use lib.Seq.{drop-cons, length-take-le}
 use borrow.Author.Tests.{le-leb, lt-leb}
 use Rattle.slices.specs.Part.{part}
 use Rattle.slices.specs.Order.{order, is_equal, equal}
 use Rattle.std.specs.declared.cmp.Ordering.{Ordering}
 use Rattle.std.specs.declared.cmp.Ordering.TheVariants.{Less, Equal, Greater}
+use Rattle.std.specs.Ordering.{MatchOrdering, is_eq, is_ge}
 use Rattle.slices.proofs.OrderLaws.{after, order_append}
 use Rattle.slices.proofs.PartLaws.{length_part}
 use Rattle.slices.proofs.SearchLaws.{Come, starts, finds, goes_on, ends, first_within}
 use Rattle.routes.specs.Places.{place_of}
-use Rattle.routes.specs.Sources.{record_at, in_use, sources_in}
+use Rattle.routes.specs.Sources.{record_at, in_use}
 use Rattle.routes.specs.declared.Sources.{Sources}
-use Rattle.applying.specs.State.{not_less, put_at, left_out, not_before, count_before, has_place, is_record, with_source, without_record, held, Gives, made, failed}
-use Rattle.applying.specs.declared.state.Change.{Change}
+use Rattle.applying.specs.State.{not_less, put_at, left_out, not_before, count_before, has_place, is_record, with_source, without_record}
 
 -- ---- places
 
-module _ (a b : List ℕ) {key sequence number : Ordering} (hk : key ≡ order (part 25 0 a) (part 25 0 b)) (hs : sequence ≡ order (part 3 26 a) (part 3 26 b))
-    (hn : number ≡ order (part 1 38 a) (part 1 38 b)) where
-  pub places : order (place_of a) (place_of b) ≡ after key (after sequence number)
-  unfolding place_of
-  places =
-      order_append (part 25 0 a) (part 25 0 b) _ _ (length_part 25 0 a ∙ sym (length_part 25 0 b))
-      ∙ ap (after (order (part 25 0 a) (part 25 0 b))) (order_append (part 3 26 a) (part 3 26 b) _ _ (length_part 3 26 a ∙ sym (length_part 3 26 b)))
-      ∙ rw (← hk, ← hs, ← hn)
+pub places : (a b : List ℕ) {key sequence number : Ordering} → key ≡ order (part 25 0 a) (part 25 0 b) → sequence ≡ order (part 3 26 a) (part 3 26 b)
+    → number ≡ order (part 1 38 a) (part 1 38 b) → order (place_of a) (place_of b) ≡ after key (after sequence number)
+unfolding place_of
+places a b hk hs hn =
+    order_append (part 25 0 a) (part 25 0 b) _ _ (length_part 25 0 a ∙ sym (length_part 25 0 b))
+    ∙ ap (after (order (part 25 0 a) (part 25 0 b))) (order_append (part 3 26 a) (part 3 26 b) _ _ (length_part 3 26 a ∙ sym (length_part 3 26 b)))
+    ∙ rw (← hk, ← hs, ← hn)
 
-  pub by_key : (key ≡ Less → Less ≡ order (place_of a) (place_of b)) × (key ≡ Greater → Greater ≡ order (place_of a) (place_of b))
-  by_key = (λ e. sym (places ∙ rw e), λ e. sym (places ∙ rw e))
+-- a comparison, and where that is level another
+pub then_after : (o p r : Ordering) {M : Type 0} → MatchOrdering o (r ≡ Less) M (r ≡ Greater) → (M → r ≡ p) → r ≡ after o p
+then_after Less p r m k = m
+then_after Equal p r m k = k m
+then_after Greater p r m k = m
 
-  pub by_sequence : key ≡ Equal → (sequence ≡ Less → Less ≡ order (place_of a) (place_of b)) × (sequence ≡ Greater → Greater ≡ order (place_of a) (place_of b))
-  by_sequence k = (λ e. sym (places ∙ rw (k, e)), λ e. sym (places ∙ rw (k, e)))
+pub after_after : (o p q : Ordering) → after (after o p) q ≡ after o (after p q)
+after_after Less p q = refl
+after_after Equal p q = refl
+after_after Greater p q = refl
 
-  pub by_number : key ≡ Equal → sequence ≡ Equal → number ≡ order (place_of a) (place_of b)
-  by_number k s = sym (places ∙ rw (k, s))
+is_level : (o : Ordering) → is_eq o ≡ is_equal o
+is_level Less = refl
+is_level Equal = refl
+is_level Greater = refl
 
--- the search for a record's place has come to i
-abbrev pub Searched : Sources → (frozen log rec : List ℕ) → ℕ → Type 0
-Searched st f l rec i = Come (not_before f l rec) 0 (in_use st) 0 i
+pub is_late : (o : Ordering) → is_ge o ≡ not_less o
+is_late Less = refl
+is_late Equal = refl
+is_late Greater = refl
 
--- ---- the sources of a state
+-- ---- the sources that count
 
-module _ (st : Sources) (h : st.count ≤ 480) (long : length st.at ≡ 480) where
-  pub in_use-length : length (in_use st) ≡ st.count
-  unfolding in_use
-  in_use-length = length-take-le st.count st.at (omega arith)
-
-  pub in_use_at : (i : ℕ) → i < st.count → get_or (in_use st) i 0 ≡ get_or st.at i 0
-  unfolding in_use
-  in_use_at i k = get_or-take st.count st.at i 0 k
-
-  -- what stands at a place, and past the last
-  pub in_use_next : (i : ℕ) → i < st.count → drop i (in_use st) ≡ get_or st.at i 0 ∷ drop (suc i) (in_use st)
-  in_use_next i k = drop-cons (in_use st) i 0 (rw in_use-length k) ∙ ap (λ (s : ℕ). s ∷ drop (suc i) (in_use st)) (in_use_at i k)
-
-  pub in_use_past : (i : ℕ) → st.count ≤ i → drop i (in_use st) ≡ []
-  in_use_past i k = drop_of_length-le (in_use st) {i = i} (rw in_use-length k)
-
-  -- ---- the search
-
-  module _ (f l rec : List ℕ) (i : ℕ) where
-    module _ (c : Searched st f l rec i) (k : i < st.count) (x : List ℕ) {b : Bool} (e : x ≡ record_at f l (get_or st.at i 0)) (t : b ≡ not_less (order (place_of x) (place_of rec))) where
-      test : not_before f l rec (get_or (in_use st) i 0) ≡ b
-      unfolding not_before
-      test = rw (in_use_at i k, ← e, ← t)
-
-      pub search_finds : b ≡ true → i ≡ count_before f l rec (in_use st)
-      unfolding count_before
-      search_finds q = finds (not_before f l rec) 0 (in_use st) 0 i c (rw in_use-length k) (test ∙ q) ∙ zero-add _
-
-      pub search_goes_on : b ≡ false → Searched st f l rec (i + 1)
-      search_goes_on q = goes_on (not_before f l rec) 0 (in_use st) 0 i c (rw in_use-length k) (test ∙ q)
-
-    pub search_ends : Searched st f l rec i → st.count ≤ i → i ≡ count_before f l rec (in_use st)
-    unfolding count_before
-    search_ends c k = ends (not_before f l rec) 0 (in_use st) 0 i c (rw in_use-length k) ∙ zero-add _
-
-    -- ---- what stands at a place
-
-    pub no_place : st.count ≤ i → false ≡ has_place f l rec (drop i (in_use st))
-    unfolding has_place
-    no_place k = rw (in_use_past i k)
-
-    pub its_place : (x : List ℕ) {o : Ordering} → i < st.count → x ≡ record_at f l (get_or st.at i 0) → o ≡ order (place_of x) (place_of rec) → is_equal o ≡ has_place f l rec (drop i (in_use st))
-    unfolding has_place equal
-    its_place x k e q = rw (in_use_next i k, ← e, ← q)
-
-    pub no_record : st.count ≤ i → false ≡ is_record f l rec (drop i (in_use st))
-    unfolding is_record
-    no_record k = rw (in_use_past i k)
-
-    pub its_record : (x : List ℕ) {b : Bool} → i < st.count → x ≡ record_at f l (get_or st.at i 0) → b ≡ equal (part 132 0 x) (part 132 0 rec) → b ≡ is_record f l rec (drop i (in_use st))
-    unfolding is_record
-    its_record x k e q = rw (in_use_next i k, ← e) q
-
--- sources up to a place are the same in the whole row and in the part of it that counts
-pub row_part : (row : List ℕ) (count from to : ℕ) → to ≤ count → count ≤ 480 → sources_in (held 480 row) from to ≡ sources_in (held count row) from to
+pub in_use-length : (st : Sources) → st.count ≤ 480 → length st.at ≡ 480 → length (in_use st) ≡ st.count
 unfolding in_use
-row_part row count from to h k = ap (drop from) (take-take to 480 row (omega arith) ∙ sym (take-take to count row h))
+in_use-length st h long = length-take-le st.count st.at (omega arith)
 
-pub search_starts : (st : Sources) (f l rec : List ℕ) → Searched st f l rec 0
-search_starts st f l rec = starts (not_before f l rec) 0 (in_use st) 0
+-- ---- the search for a record's place
+
+-- it has come to i
+abbrev pub Searched : (frozen log rec xs : List ℕ) → ℕ → Type 0
+Searched f l rec xs i = Come (not_before f l rec) 0 xs 0 i
+
+pub search_starts : (f l rec xs : List ℕ) → Searched f l rec xs 0
+search_starts f l rec xs = starts (not_before f l rec) 0 xs 0
+
+module _ (f l rec xs : List ℕ) (i : ℕ) where
+  module _ (c : Searched f l rec xs i) (k : i < length xs) (x : List ℕ) {b : Bool} (e : x ≡ record_at f l (get_or xs i 0)) (t : b ≡ not_less (order (place_of x) (place_of rec))) where
+    test : not_before f l rec (get_or xs i 0) ≡ b
+    unfolding not_before
+    test = rw (← e, ← t)
+
+    pub search_finds : b ≡ true → i ≡ count_before f l rec xs
+    unfolding count_before
+    search_finds q = finds (not_before f l rec) 0 xs 0 i c k (test ∙ q) ∙ zero-add _
+
+    pub search_goes_on : b ≡ false → Searched f l rec xs (i + 1)
+    search_goes_on q = goes_on (not_before f l rec) 0 xs 0 i c k (test ∙ q)
+
+  pub search_ends : Searched f l rec xs i → length xs ≤ i → i ≡ count_before f l rec xs
+  unfolding count_before
+  search_ends c k = ends (not_before f l rec) 0 xs 0 i c k ∙ zero-add _
+
+  -- ---- what stands at a place
+
+  module _ {ys : List ℕ} (e : ys ≡ xs) where
+    pub no_place : length ys ≤ i → false ≡ has_place f l rec (drop i xs)
+    unfolding has_place
+    no_place k = rw (drop_of_length-le xs (rw e at k))
+
+    pub no_record : length ys ≤ i → false ≡ is_record f l rec (drop i xs)
+    unfolding is_record
+    no_record k = rw (drop_of_length-le xs (rw e at k))
+
+    module _ {s : ℕ} (h : (i < length ys) × ((d : ℕ) → s ≡ get_or ys i d)) (x : List ℕ) (q : x ≡ record_at f l s) where
+      stands : drop i xs ≡ get_or ys i 0 ∷ drop (suc i) xs
+      stands = rw (← e) (drop-cons ys i 0 h.0)
+
+      its : x ≡ record_at f l (get_or ys i 0)
+      its = q ∙ ap (record_at f l) (h.1 0)
+
+      pub its_place : {o : Ordering} {b : Bool} → o ≡ order (place_of x) (place_of rec) → b ≡ is_eq o → b ≡ has_place f l rec (drop i xs)
+      unfolding has_place equal
+      its_place {o} p t = t ∙ is_level o ∙ ap is_equal p ∙ rw (stands, ← its)
+
+      pub its_record : {b : Bool} → b ≡ equal (part 132 0 x) (part 132 0 rec) → b ≡ is_record f l rec (drop i xs)
+      unfolding is_record
+      its_record p = rw (stands, ← its) p
 
 -- a record's place is within the sources
 pub count_within : (f l rec xs : List ℕ) → count_before f l rec xs ≤ length xs
@@ -124,24 +127,25 @@ record_within_lem f l rec (x ∷ xs) (suc i) e = let k : i < length xs = record_
 
 -- ---- changes
 
-module _ (f l : List ℕ) (s : ℕ) (xs : List ℕ) (rec : List ℕ) (e : rec ≡ record_at f l s) {i : ℕ} (p : i ≡ count_before f l rec xs) (c : Change) (row : List ℕ) where
-  pub put_full : 480 ≤ length xs → c.done ≡ false → Gives c row (with_source f l s xs)
+module _ (f l : List ℕ) (s : ℕ) (xs : List ℕ) {rec : List ℕ} (e : rec ≡ record_at f l s) {i : ℕ} (p : i ≡ count_before f l rec xs) where
+  pub put_full : 480 ≤ length xs → with_source f l s xs ≡ none
   unfolding with_source
-  put_full h d = rw (le-leb 480 (length xs) h) (failed d)
+  put_full h = rw (le-leb 480 (length xs) h)
 
-  pub put_taken : {b : Bool} → length xs < 480 → b ≡ has_place f l rec (drop i xs) → b ≡ true → c.done ≡ false → Gives c row (with_source f l s xs)
-  unfolding with_source
-  put_taken h q t d = rw (lt-leb 480 (length xs) h, ← e, ← p, ← q, t) (failed d)
+  module _ (h : length xs < 480) {b : Bool} (q : b ≡ has_place f l rec (drop i xs)) where
+    pub put_taken : b ≡ true → with_source f l s xs ≡ none
+    unfolding with_source
+    put_taken t = rw (lt-leb 480 (length xs) h, ← e, ← p, ← q, t)
 
-  pub put_made : {b : Bool} → length xs < 480 → b ≡ has_place f l rec (drop i xs) → b ≡ false → c.done ≡ true → c.count ≤ 480 → in_use (held c.count row) ≡ put_at i s xs → Gives c row (with_source f l s xs)
-  unfolding with_source
-  put_made h q t d n g = rw (lt-leb 480 (length xs) h, ← e, ← p, ← q, t) (made d n g)
+    pub put_made : b ≡ false → with_source f l s xs ≡ some (put_at i s xs)
+    unfolding with_source
+    put_made t = rw (lt-leb 480 (length xs) h, ← e, ← p, ← q, t)
 
-module _ (f l rec xs : List ℕ) {i : ℕ} (p : i ≡ count_before f l rec xs) (c : Change) (row : List ℕ) where
-  pub take_made : {b : Bool} → b ≡ is_record f l rec (drop i xs) → b ≡ true → c.done ≡ true → c.count ≤ 480 → in_use (held c.count row) ≡ left_out i xs → Gives c row (without_record f l rec xs)
+module _ (f l rec xs : List ℕ) {i : ℕ} (p : i ≡ count_before f l rec xs) {b : Bool} (q : b ≡ is_record f l rec (drop i xs)) where
+  pub take_made : b ≡ true → without_record f l rec xs ≡ some (left_out i xs)
   unfolding without_record
-  take_made q t d n g = rw (← p, ← q, t) (made d n g)
+  take_made t = rw (← p, ← q, t)
 
-  pub take_failed : {b : Bool} → b ≡ is_record f l rec (drop i xs) → b ≡ false → c.done ≡ false → Gives c row (without_record f l rec xs)
+  pub take_failed : b ≡ false → without_record f l rec xs ≡ none
   unfolding without_record
-  take_failed q t d = rw (← p, ← q, t) (failed d)
+  take_failed t = rw (← p, ← q, t)

@@ -7,21 +7,21 @@ use mathlib.Core.Path.{◌≡◌, refl, sym, ap, subst, ◌∙◌}
 use mathlib.Core.Logic.{◌↔◌, inl, inr, ⊎_elim}
 use mathlib.Core.Bool.{Bool, true, false, cond, ◌&&◌, false≢true}
 use mathlib.Core.List.{List, [], ◌∷◌, map}
-use Prim.Native.Nat.{ℕ, zero, suc, ◌+◌, ◌≤◌, ◌<◌}
+use Prim.Native.Nat.{ℕ, zero, suc, ◌<◌}
 use native.Mathlib.Omega.{arith}
 use Prim.Native.Char.{code}
 use lib.Dec.{eqb}
-use lib.ListN.{take, drop, get_or}
+use lib.ListN.{length, take, drop, get_or}
 use Rattle.slices.specs.Order.{equal}
 use Rattle.slices.proofs.Cases.{split, both, and_left, and_right, or_iff}
 use Rattle.slices.proofs.OrderLaws.{equal_iff}
 use Rattle.refusals.specs.declared.Refusal.{Refusal}
 use Rattle.refusals.proofs.VerdictLaws.{never, same_refusal}
-use Rattle.corrections.specs.Reading.{Entry}
-use Rattle.corrections.specs.declared.Index.{Index}
+use Rattle.corrections.specs.declared.Entry.{Entry}
+use Rattle.corrections.specs.Reading.{no_entry}
 use Rattle.routes.specs.InTurn.{in_turn}
 use Rattle.routes.specs.Places.{key_of, place_of, of_route, Before, Every, Rising}
-use Rattle.routes.specs.Sources.{log_source, record_at}
+use Rattle.routes.specs.Sources.{record_at}
 use Rattle.routes.specs.Walk.{walked}
 use Rattle.routes.proofs.InTurnLaws.{alone, accepts_iff as in-turn-iff}
 use Rattle.routes.proofs.PlaceLaws.{place_key, of_route_in, of_route_out, none_behind}
@@ -29,7 +29,7 @@ use Rattle.routes.proofs.Routes.{no_record}
 use Rattle.history.specs.Format as H
 use Rattle.history.specs.Format.{own}
 use Rattle.history.specs.Apply.{Correction, route_of_op, Touches, touched_accepted}
-use Rattle.applying.specs.Apply.{if_refused, entry_at, entries_from, record_of_line, touched, together, touched_judged, refused_route}
+use Rattle.applying.specs.Apply.{source_of, if_refused, record_of_line, touched, together, touched_judged, refused_route, RouteStands}
 use Rattle.applying.specs.Procedures.{accepts, procedures, operation}
 use Rattle.applying.proofs.Procedures.{own_route, rising, accepts_iff}
 use Rattle.applying.proofs.PlacedLaws.{records_of}
@@ -228,22 +228,18 @@ module _ (f l : List ℕ) where
       (λ e. t.1 (j.0 e), λ e. j.1 (t.0 e))
 
   -- The routes touched stand where that of each line does.
-  lines_stand : (index : Index) (k n : ℕ) (xs : List ℕ)
-      → ((j : ℕ) → k ≤ j → j < k + n → walked (of_route (key_of (record_at f l (log_source (get_or index.at j 0)))) (records_of f l xs)) ≡ Accepted)
-      → Stand (entries_from index k n) xs
-  unfolding entries_from
-  lines_stand index k zero xs h i t = absurd t
-  lines_stand index k (suc n) xs h i t =
+  lines_stand : (es : List Entry) (xs : List ℕ) → ((j : ℕ) → j < length es → RouteStands f l xs (source_of (get_or es j no_entry))) → Stand es xs
+  lines_stand [] xs h i t = absurd t
+  lines_stand (e ∷ es) xs h i t =
       ⊎_elim
-      (λ (q : route_of_op procedures (operation f l (entry_at index k)) ≡ i).
-      subst (λ (x : List ℕ). walked (of_route x (records_of f l xs)) ≡ Accepted) (sym (line_route (entry_at index k)) ∙ q) (h k (omega arith) (omega arith)))
-      (λ (q : Touches procedures (map (operation f l) (entries_from index (k + 1) n)) i).
-      lines_stand index (k + 1) n xs (λ j a b. h j (omega arith) (omega arith)) i q) t
+      (λ (q : route_of_op procedures (operation f l e) ≡ i).
+      subst (λ (x : List ℕ). walked (of_route x (records_of f l xs)) ≡ Accepted) (sym (line_route e) ∙ q) (h 0 (omega arith)))
+      (λ (q : Touches procedures (map (operation f l) es) i).
+      lines_stand es xs (λ j a. h (suc j) (omega arith)) i q) t
 
-  pub each_stands : (index : Index) (k n : ℕ) (xs : List ℕ) → Rising (map place_of (records_of f l xs))
-      → ((j : ℕ) → k ≤ j → j < k + n → walked (of_route (key_of (record_at f l (log_source (get_or index.at j 0)))) (records_of f l xs)) ≡ Accepted)
-      → touched_judged f l (entries_from index k n) 0 xs ≡ Accepted
-  each_stands index k n xs u h = (judged_iff (entries_from index k n) 0 xs u).1 (lines_stand index k n xs h)
+  pub each_stands : (es : List Entry) (xs : List ℕ) → Rising (map place_of (records_of f l xs))
+      → ((j : ℕ) → j < length es → RouteStands f l xs (source_of (get_or es j no_entry))) → touched_judged f l es 0 xs ≡ Accepted
+  each_stands es xs u h = (judged_iff es 0 xs u).1 (lines_stand es xs h)
 
   -- and then none is refused
   pub none_refused : (es : List Entry) (n : ℕ) (xs : List ℕ) → touched_judged f l es n xs ≡ Accepted → refused_route f l es n xs ≡ []

@@ -10,7 +10,7 @@ use mathlib.Core.Option.{Option, none, some, bind}
 use Prim.Native.Nat.{ℕ, ◌+◌}
 use native.Mathlib.Omega.{arith}
 use Rattle.refusals.specs.declared.Refusal.{Refusal}
-use Rattle.corrections.specs.Reading.{Entry}
+use Rattle.corrections.specs.declared.Entry.{Entry}
 use Rattle.history.specs.Apply.{apply_all, correct}
 use Rattle.history.specs.Sets.{Numbers}
 use Rattle.history.proofs.Cases.{every_some}

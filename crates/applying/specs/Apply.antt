@@ -1,24 +1,22 @@
 -- A correction applied to the records of a file, by their sources: its lines in order, then the routes that its lines name.
 -- Assumes nothing.
 use Rattle.refusals.specs.Table.{Verdict, Accepted}
-use Rattle.std.specs.Prelude.{ℕ, zero, suc, ◌+◌, ◌≤◌, ◌≡◌, Bool, false, cond, ◌||◌, List, [], ◌∷◌, map, eqb, length, get_or, take, Ok, Err}
+use Rattle.std.specs.Prelude.{ℕ, zero, suc, ◌+◌, ◌≤◌, ◌≡◌, Bool, false, cond, ◌||◌, List, [], ◌∷◌, map, eqb, get_or, take, Ok, Err}
 use Prim.Native.Char.{code}
 use Rattle.std.proofs.Math.Option.{Option, none, some, bind}
 use Rattle.slices.specs.Order.{equal}
-use Rattle.corrections.specs.Reading.{Entry, entry}
+use Rattle.corrections.specs.declared.Entry.{Entry}
+use Rattle.corrections.specs.Reading.{no_entry}
 use Rattle.corrections.specs.declared.Index.{Index}
 use Rattle.routes.specs.InTurn.{in_turn}
 use Rattle.routes.specs.Places.{key_of, of_route}
-use Rattle.routes.specs.Sources.{log_source, record_at, in_use, sources_in}
-use Rattle.routes.specs.declared.Sources.{Sources}
+use Rattle.routes.specs.Sources.{log_source, record_at}
 use Rattle.routes.specs.Walk.{walked}
-use Rattle.applying.specs.State.{with_source, without_record, Gives}
-use Rattle.applying.specs.declared.judge.Judged.{Judged}
-use Rattle.applying.specs.declared.state.Change.{Change}
+use Rattle.applying.specs.State.{with_source, without_record}
 
 -- the lines of an index: the one at k, n of them from k on, and all of them
 abbrev pub entry_at : Index → ℕ → Entry
-entry_at index k = entry (get_or index.kind k 0) (get_or index.at k 0) (get_or index.correction k 0)
+entry_at index k = get_or index.entries k no_entry
 
 unfoldable pub entries_from : Index → (k n : ℕ) → List Entry
 entries_from index k zero = []
@@ -27,29 +25,12 @@ entries_from index k (suc n) = entry_at index k ∷ entries_from index (k + 1) n
 abbrev pub lines_of : Index → List Entry
 lines_of index = entries_from index 0 index.count
 
--- lines that lie in three rows: their letters, their offsets and the numbers of their corrections
-abbrev pub in_rows : (letters offsets owners : List ℕ) → Index
-in_rows letters offsets owners = record { verdict = Accepted; corrections = 0; count = 0; kind = letters; at = offsets; correction = owners }
-
--- what holds of lines, whatever is in the rows that are not named
-abbrev pub ForOffsets : (offsets : List ℕ) → (Index → Type 0) → Type 0
-ForOffsets offsets P = (letters owners : List ℕ) → P (in_rows letters offsets owners)
-
-abbrev pub ForLines : (letters offsets : List ℕ) → (Index → Type 0) → Type 0
-ForLines letters offsets P = (owners : List ℕ) → P (in_rows letters offsets owners)
-
-abbrev pub ForOwners : (owners : List ℕ) → (Index → Type 0) → Type 0
-ForOwners owners P = (letters offsets : List ℕ) → P (in_rows letters offsets owners)
-
 -- every line lies within the longest log
-abbrev pub WithinLog : (offsets : List ℕ) → Type 0
-WithinLog offsets = (k : ℕ) → get_or offsets k 0 ≤ 60000
-
-abbrev pub Offsets : List ℕ → Type 0
-Offsets offsets = (length offsets ≡ 444) × WithinLog offsets
+abbrev pub WithinLog : List Entry → Type 0
+WithinLog es = (k : ℕ) → (get_or es k no_entry).at ≤ 60000
 
 abbrev pub Within : Index → Type 0
-Within index = WithinLog index.at
+Within index = WithinLog index.entries
 
 -- where a line's record lies
 abbrev pub source_of : Entry → ℕ
@@ -75,10 +56,6 @@ module _ (frozen log : List ℕ) where
   -- "D: that record, byte for byte, is taken out. A: it's put in by its place."
   unfoldable pub line_applied : Entry → List ℕ → Option (List ℕ)
   line_applied e xs = cond (eqb e.letter (code "D")) (without_record frozen log (record_of_line e) xs) (with_source frozen log (source_of e) xs)
-
-  -- a change as the code gives it, of a line of whatever correction
-  abbrev pub LineGives : Change → (at : List ℕ) (letter offset : ℕ) → List ℕ → Type 0
-  LineGives c at letter offset xs = (n : ℕ) → Gives c at (line_applied (entry letter offset n) xs)
 
   -- "Lines apply in order"
   unfoldable pub lines_applied : List Entry → List ℕ → Option (List ℕ)
@@ -123,9 +100,3 @@ module _ (frozen log : List ℕ) where
   -- the route of a source stands among some sources
   abbrev pub RouteStands : List ℕ → ℕ → Type 0
   RouteStands xs s = walked (of_route (key_of (record_at frozen log s)) (map (record_at frozen log) xs)) ≡ Accepted
-
-  -- a verdict on these routes as the code gives it, with the places of the one that is refused
-  abbrev pub Judges : Judged → Sources → List Entry → Type 0
-  Judges r st es =
-      (r.verdict ≡ touched_judged es 0 (in_use st)) × (sources_in st r.from r.to ≡ refused_route es 0 (in_use st))
-      × (r.from ≤ r.to) × (r.to ≤ st.count)

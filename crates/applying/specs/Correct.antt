@@ -1,16 +1,15 @@
 -- One correction: its lines, then the routes that they name.
 -- Assumes nothing.
-use Rattle.std.specs.Prelude.{ℕ, ◌≤◌, ◌≡◌, Bool, true, cond, List, [], Ok, Err}
+use Rattle.std.specs.Prelude.{ℕ, ◌≡◌, Bool, true, cond, List, [], Result, Ok, Err}
 use Rattle.std.proofs.Math.Option.{Option, some, none}
 use Rattle.refusals.specs.Table.{refusal, does_not_apply, route_refused, Verdict, Accepted, Refused}
 use Rattle.refusals.specs.declared.Refusal.{Refusal}
-use Rattle.corrections.specs.Reading.{Entry}
-use Rattle.routes.specs.Sources.{in_use, sources_in, sources_for}
+use Rattle.corrections.specs.declared.Entry.{Entry}
+use Rattle.routes.specs.Sources.{sources_for}
 use Rattle.applying.specs.Apply.{lines_applied, fails_at, touched_judged, refused_route}
-use Rattle.applying.specs.State.{held}
+use Rattle.applying.specs.State.{Standing}
 use Rattle.applying.specs.declared.Fault.{Fault}
-use Rattle.applying.specs.declared.correct.Corrected.{Corrected}
-use Rattle.applying.specs.declared.faults.Trouble.{Trouble}
+use Rattle.applying.specs.declared.correct.Stopped.{Stopped}
 
 -- What is wrong where a correction fails: for 10 the line that can't be applied, by the offset of its record in the log; for 11 the route, by
 -- the sources of its records, and the refusal of these alone. Of another refusal nothing is known but what it says itself.
@@ -53,16 +52,18 @@ fault_as no_more = record { at = 0; route = sources_for []; inner = refusal 0 0 
 fault_as (wrong_line at) = record { at = at; route = sources_for []; inner = refusal 0 0 0 }
 fault_as (wrong_route route r) = record { at = 0; route = sources_for route; inner = r }
 
--- what is wrong by the places of a route in a row of sources
-abbrev pub fault_in : Trouble → (at : List ℕ) → Fault
-fault_in t at = record { at = t.at; route = sources_for (sources_in (held 480 at) t.from t.to); inner = t.inner }
+-- lines applied to a state: all of them, or the first that can't be, by the offset of its record
+abbrev pub Applies : (old : Standing) → List Entry → Result Unit ℕ → (new : Standing) → Type 0
+Applies old es (Ok _) new = (lines_applied old.frozen old.log es old.sources ≡ some new.sources) × (new ≡ record old { sources = new.sources })
+Applies old es (Err at) new = (lines_applied old.frozen old.log es old.sources ≡ none) × (at ≡ fails_at old.frozen old.log es old.sources)
 
--- a line that can't be applied; or nothing, for 0
-abbrev pub line_trouble : (at : ℕ) → Trouble
-line_trouble at = record { at = at; from = 0; to = 0; inner = refusal 0 0 0 }
+-- the routes that lines name judged: each stands, or the first that is refused
+abbrev pub Judges : Standing → List Entry → Result Unit Fault → Type 0
+Judges st es (Ok _) = touched_judged st.frozen st.log es 0 st.sources ≡ Accepted
+Judges st es (Err w) =
+    (touched_judged st.frozen st.log es 0 st.sources ≡ Refused w.inner) × (w ≡ fault_as (wrong_route (refused_route st.frozen st.log es 0 st.sources) w.inner))
 
--- an outcome over a row of sources
-pub data Comes (c : Corrected) (at : List ℕ) : Outcome → Type 0 where
-  refused : {r : Refusal} {w : Wrong} → c.verdict ≡ Refused r → c.trouble.from ≤ c.trouble.to → c.trouble.to ≤ 480
-      → fault_in c.trouble at ≡ fault_as w → Comes c at (stopped r w)
-  stands : {xs : List ℕ} → c.verdict ≡ Accepted → c.count ≤ 480 → in_use (held c.count at) ≡ xs → Comes c at (reached xs)
+-- an outcome over a state
+abbrev pub Comes : (old : Standing) → Outcome → Result Unit Stopped → (new : Standing) → Type 0
+Comes old o (Ok _) new = (o ≡ reached new.sources) × (new ≡ record old { sources = new.sources })
+Comes old o (Err s) new = (w : Wrong) × (o ≡ stopped s.refusal w) × (s.fault ≡ fault_as w)

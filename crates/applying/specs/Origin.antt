@@ -4,7 +4,7 @@
 use Rattle.std.specs.Prelude.{ℕ, ◌*◌, ◌<◌, ◌≡◌, cond, List, [], ◌∷◌, ◌++◌, length}
 use Prim.Native.Char.{code}
 use Rattle.slices.specs.Part.{member}
-use Rattle.corrections.specs.Reading.{Entry}
+use Rattle.corrections.specs.declared.Entry.{Entry}
 use Rattle.routes.specs.Places.{place_of, Every}
 use Rattle.routes.specs.Sources.{record_at, records}
 use Rattle.applying.specs.Apply.{source_of, record_of_line}

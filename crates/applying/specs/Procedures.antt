@@ -12,7 +12,7 @@ use Rattle.routes.proofs.Routes.{no_record}
 use Rattle.history.specs.Format.{Format}
 use Rattle.history.specs.Bytes.{of_bytes}
 use Rattle.history.specs.Apply.{Op, take_out, put_in, Correction}
-use Rattle.corrections.specs.Reading.{Entry}
+use Rattle.corrections.specs.declared.Entry.{Entry}
 use Rattle.corrections.specs.Text.{Change, takes_out, puts_in, LegalLog}
 use Rattle.applying.specs.Apply.{record_of_line}
 

@@ -2,7 +2,7 @@
 -- Assumes nothing.
 use Rattle.std.specs.Prelude.{ℕ, zero, suc, ◌+◌, Bool, true, cond, List, [], ◌∷◌, eqb, get_or, take, drop}
 use Rattle.history.specs.Sets.{Numbers}
-use Rattle.corrections.specs.Reading.{Entry}
+use Rattle.corrections.specs.declared.Entry.{Entry}
 use Rattle.corrections.specs.declared.Index.{Index}
 use Rattle.applying.specs.Apply.{lines_of}
 use Rattle.applying.specs.Correct.{Outcome, stopped, reached, corrected_if}

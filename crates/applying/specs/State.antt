@@ -1,6 +1,6 @@
 -- The records of a file under corrections, by their sources, in rising order of place: one more put in, one taken out.
 -- Assumes nothing.
-use Rattle.std.specs.Prelude.{ℕ, suc, ◌≤◌, ◌≡◌, Bool, true, false, cond, List, [], ◌∷◌, ◌++◌, map, leb, length, take, drop}
+use Rattle.std.specs.Prelude.{ℕ, suc, ◌≡◌, Bool, true, false, cond, List, [], ◌∷◌, ◌++◌, map, leb, length, take, drop}
 use Rattle.std.proofs.Math.Option.{Option, some, none}
 use Rattle.slices.specs.Part.{part}
 use Rattle.slices.specs.Order.{order, equal}
@@ -8,9 +8,7 @@ use Rattle.slices.specs.Search.{first_at}
 use Rattle.std.specs.declared.cmp.Ordering.{Ordering}
 use Rattle.std.specs.declared.cmp.Ordering.TheVariants.{Less, Equal, Greater}
 use Rattle.routes.specs.Places.{place_of, Rising}
-use Rattle.routes.specs.Sources.{record_at, in_use}
-use Rattle.routes.specs.declared.Sources.{Sources}
-use Rattle.applying.specs.declared.state.Change.{Change}
+use Rattle.routes.specs.Sources.{record_at}
 
 -- the first of two stands level with the second, or after it
 abbrev pub not_less : Ordering → Bool
@@ -60,15 +58,14 @@ module _ (frozen log : List ℕ) where
 
 -- ---- as the code gives it
 
--- sources that lie in a row, of which so many count
-abbrev pub held : (count : ℕ) (at : List ℕ) → Sources
-held n xs = record { count = n; at = xs }
+-- a state: the texts that its sources name records of, whether routes are judged, and the sources
+pub record Standing : Type 0 where
+  pub frozen : List ℕ
+  pub log : List ℕ
+  pub judging : Bool
+  pub sources : List ℕ
 
--- a row of 480
-abbrev pub Row : (count : ℕ) (at : List ℕ) → Type 0
-Row n xs = (n ≤ 480) × (length xs ≡ 480)
-
--- a change of such a row: done, with the sources that it comes to; or not done
-pub data Gives (c : Change) (at : List ℕ) : Option (List ℕ) → Type 0 where
-  made : {xs : List ℕ} → c.done ≡ true → c.count ≤ 480 → in_use (held c.count at) ≡ xs → Gives c at (some xs)
-  failed : c.done ≡ false → Gives c at none
+-- a change of a state: made, with the sources that it comes to; or not made, and then all stands as before
+abbrev pub Gives : (old : Standing) → Option (List ℕ) → (made : Bool) → (new : Standing) → Type 0
+Gives old o true new = (o ≡ some new.sources) × (new ≡ record old { sources = new.sources })
+Gives old o false new = (o ≡ none) × (new ≡ old)

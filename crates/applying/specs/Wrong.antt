@@ -4,7 +4,7 @@ use Rattle.std.specs.Prelude.{ℕ, ◌+◌, ◌≡◌, List, ◌∷◌, ◌++◌
 use Rattle.std.proofs.Math.Option.{none, some}
 use Rattle.refusals.specs.Table.{does_not_apply, route_refused, Refused}
 use Rattle.refusals.specs.declared.Refusal.{Refusal}
-use Rattle.corrections.specs.Reading.{Entry}
+use Rattle.corrections.specs.declared.Entry.{Entry}
 use Rattle.history.specs.Apply.{Touches}
 use Rattle.routes.specs.Places.{of_route}
 use Rattle.routes.specs.Sources.{record_at}

@@ -1,81 +1,36 @@
-// The lines of a correction applied to a state, one after the other. Assumes of its callers, all in this crate, what a state asks for, no more
-// than 444 lines, and that each line lies within a log of 60,000 bytes.
+// The lines of a correction applied to a state, one after the other.
 //
 // A line costs one search of a place, and the sources behind it are moved.
-ghost use Rattle.std.specs.Prelude.{◌≡◌, ◌-◌, ◌≤◌, length};
-ghost use Rattle.routes.specs.Sources.{in_use};
-ghost use Rattle.applying.specs.State.{InOrder, held, Row, Gives};
-ghost use Rattle.applying.specs.Apply.{Offsets, ForLines, entries_from, LineGives, lines_applied, fails_at};
+ghost use Rattle.std.specs.Prelude.{◌≡◌, ◌≤◌};
+ghost use Rattle.applying.specs.State.{Gives};
+ghost use Rattle.applying.specs.Apply.{line_applied};
+ghost use Rattle.applying.specs.Correct.{Applies};
 
-use crate::state::{Change, put_in, take_out};
-use routes::{log_source, record_at};
+use crate::lines::{Lines, source_of};
+use crate::state::State;
+use corrections::Entry;
 
-// One line of a correction, whose record stands at an offset of the log: D takes the record out, A puts it in.
-fn apply_line<'a>(
-    frozen: &'a [u8],
-    log: &'a [u8],
-    rising: bool,
-    letter: u8,
-    offset: u32,
-    at: &mut [u32],
-    count: usize,
-) -> Change
-    requires { Row count at.old × (offset ≤ 60000) × InOrder frozen.now log.now rising (in_use (held count at.old)) }
-    ensures { LineGives frozen.now log.now result at.new letter offset (in_use (held count at.old)) }
+// One line of a correction: D takes its record out, A puts it in. Says whether it could be applied.
+fn apply_line(state: &mut State, line: &Entry) -> bool
+    requires { line.now.at ≤ 60000 }
+    ensures { Gives state.old (line_applied state.old.frozen state.old.log line.now state.old.sources) result state.new }
 {
-    let source = log_source(offset as u16);
-    if letter == b'D' {
-        let rec = record_at(frozen, log, source);
-        return take_out(frozen, log, rising, &mut *at, count, rec);
+    let source = source_of(line);
+    if line.letter == b'D' {
+        let rec = state.record(source);
+        return state.take_out(rec);
     }
-    put_in(frozen, log, rising, &mut *at, count, source)
+    state.put_in(source)
 }
 
-// What some lines come to; and the offset of the record of the first line that can't be applied, 0 where each can.
-#[derive(Clone, Copy)]
-pub(crate) struct Applied {
-    pub change: Change,
-    pub fails_at: u32,
-}
-
-// The lines from `from` up to `to`, in their order. Not done where one of them can't be applied.
-pub(crate) fn apply_lines<'a>(
-    frozen: &'a [u8],
-    log: &'a [u8],
-    rising: bool,
-    letters: &[u8],
-    offsets: &[u32],
-    from: usize,
-    to: usize,
-    at: &mut [u32],
-    count: usize,
-) -> Applied
-    requires { Row count at.old × (to ≤ 444) × Offsets offsets.now × (length letters.now ≡ 444) × InOrder frozen.now log.now rising (in_use (held count at.old)) }
-    ensures { ForLines letters.now offsets.now (λ index.
-        Gives result.change at.new (lines_applied frozen.now log.now (entries_from index from (to - from)) (in_use (held count at.old)))
-        × (result.fails_at ≡ fails_at frozen.now log.now (entries_from index from (to - from)) (in_use (held count at.old)))) }
+// The lines of a correction in their order; or the offset of the record of the first that can't be applied.
+pub(crate) fn apply_lines(state: &mut State, lines: Lines) -> Result<(), u32>
+    ensures { Applies state.old lines.entry.entries.now result state.new }
 {
-    let mut standing = count;
-    let mut k = from;
-    while k < to {
-        let letter = letters[k];
-        let offset = offsets[k];
-        let change = apply_line(frozen, log, rising, letter, offset, &mut *at, standing);
-        if !change.done {
-            return Applied {
-                change,
-                fails_at: offset,
-            };
+    for line in lines.entries {
+        if !apply_line(state, line) {
+            return Err(line.at);
         }
-        standing = change.count;
-        k += 1;
     }
-    let all = Change {
-        done: true,
-        count: standing,
-    };
-    Applied {
-        change: all,
-        fails_at: 0,
-    }
+    Ok(())
 }

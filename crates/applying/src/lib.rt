@@ -5,28 +5,26 @@
 mod apply;
 mod bounds;
 mod correct;
-mod faults;
 mod judge;
 mod known;
+mod lines;
 mod series;
 mod state;
 
-ghost use Rattle.std.specs.Prelude.{◌≡◌, false, ◌≤◌};
-ghost use Rattle.routes.specs.Known.{Known};
-ghost use Rattle.applying.specs.Apply.{Within, same_route};
+ghost use Rattle.std.specs.Prelude.{◌≡◌, false};
+ghost use Rattle.applying.specs.Apply.{same_route};
 ghost use Rattle.applying.specs.Correct.{no_more, fault_as};
-ghost use Rattle.applying.specs.Run.{marked};
+ghost use Rattle.applying.specs.Run.{by_correction, ran_by, marked};
 ghost use Rattle.applying.specs.Bounds.{ran_over, ran_over_by, refused_run, ran_as};
 
 use bounds::bounds;
-use correct::Pass;
 use corrections::Index;
-use faults::fault_in;
-use known::{SLOTS, known_of};
+use known::known_of;
+use lines::Lines;
 use refusals::{MOST_RECORDS, Refusal, Verdict};
-use routes::{Sources, record_at};
+use routes::{Sources, Texts, record_at};
 use series::run_marked;
-use state::{range_of, rises};
+use state::{State, listed};
 
 // What is wrong where a correction fails. For 10 `at` is the offset in the log of the record whose line can't be applied. For 11 `route` is
 // where the records of the refused route lie, as the correction leaves them, and `inner` the refusal of these alone, its place counted from
@@ -95,21 +93,21 @@ pub fn is_marked(marks: &[u8], n: usize) -> bool
     slices::byte_at(marks, n) == 1
 }
 
-// The table of the records known to be legal, where routes are judged; where they are not, one that knows none.
-fn known_if<'a>(
-    judging: bool,
-    frozen: &'a [u8],
-    log: &'a [u8],
-    index: Index,
-    state: Sources,
-) -> [u32; SLOTS]
-    requires { (state.count ≤ 480) × (index.count ≤ 444) × Within index }
-    ensures { Known frozen.now log.now result }
+// Applies so many corrections, those that are marked, in their order, to a state.
+fn run_over(mut state: State, lines: Lines, total: usize, marks: &[u8]) -> Ran
+    ensures { result ≡ ran_as (ran_by state.entry.judging state.entry.frozen state.entry.log (marked marks.now) 1 (by_correction 1 total lines.entry.entries.now) state.entry.sources) }
 {
-    if judging {
-        return known_of(frozen, log, index, state);
+    match run_marked(&mut state, lines, total, marks) {
+        Ok(()) => {
+            let records = listed(state.sources());
+            Ran {
+                verdict: Ok(()),
+                records,
+                fault: no_fault(),
+            }
+        }
+        Err(stopped) => refused_run(stopped.refusal, stopped.fault),
     }
-    [0u32; SLOTS]
 }
 
 // Applies the marked corrections of an index in their order, and judges the routes that each names, or not.
@@ -123,36 +121,17 @@ fn run_by<'a>(
 ) -> Ran
     ensures { result ≡ ran_as (ran_over_by judging frozen.now log.now (marked marks.now) index state) }
 {
-    let bound = bounds(index, state);
-    match bound {
-        Ok(()) => {}
-        Err(r) => {
-            let fault = no_fault();
-            return refused_run(r, fault);
-        }
+    let texts = Texts { frozen, log };
+    let total = index.corrections;
+    let lines = match bounds(&index, &state) {
+        Ok(lines) => lines,
+        Err(refusal) => return refused_run(refusal, no_fault()),
+    };
+    if !judging {
+        return run_over(State::new(texts, None, state), lines, total, marks);
     }
-    let mut at = state.at;
-    let count = state.count;
-    let known = known_if(judging, frozen, log, index, state);
-    let rising = rises(frozen, log, &at, count);
-    let pass = Pass { rising, judging };
-    let done = run_marked(frozen, log, pass, &known, index, marks, &mut at, count);
-    let verdict = done.verdict;
-    match verdict {
-        Ok(()) => {}
-        Err(r) => {
-            let trouble = done.trouble;
-            let fault = fault_in(&at, trouble);
-            return refused_run(r, fault);
-        }
-    }
-    let records = range_of(&at, 0, done.count);
-    let fault = no_fault();
-    Ran {
-        verdict: Ok(()),
-        records: records,
-        fault: fault,
-    }
+    let known = known_of(texts, &state.at[..state.count], lines);
+    run_over(State::new(texts, Some(&known), state), lines, total, marks)
 }
 
 // Applies the marked corrections of an index in their order: 10 where a line can't be applied, 11 where a route that a correction names is

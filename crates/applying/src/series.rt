@@ -1,121 +1,43 @@
-// The corrections of a log, one after the other, those that are marked. `run_marked` assumes of its callers what one correction does, which
-// `bounds`, `rises` and `known_of` make sure of.
-ghost use Rattle.std.specs.Prelude.{◌≡◌, ◌+◌, ◌-◌, ◌≤◌, length};
-ghost use Rattle.routes.specs.Known.{Known};
-ghost use Rattle.routes.specs.Sources.{in_use};
-ghost use Rattle.applying.specs.State.{InOrder, held, Row};
-ghost use Rattle.applying.specs.Apply.{Within, Offsets, ForLines, ForOwners, entries_from};
-ghost use Rattle.applying.specs.Correct.{Comes, corrected_if};
-ghost use Rattle.applying.specs.Run.{leading_lines, corrections_of, ran_by, marked};
+// The corrections of a log, one after the other, those that are marked.
+ghost use Rattle.std.specs.Prelude.{◌≡◌};
+ghost use Rattle.applying.specs.Correct.{Comes};
+ghost use Rattle.applying.specs.Run.{leading_lines, by_correction, ran_by, marked};
 
-use crate::correct::{Corrected, Pass, correct};
-use crate::faults::line_trouble;
+use crate::correct::{Stopped, correct};
 use crate::is_marked;
-use corrections::Index;
-use refusals::Verdict;
+use crate::lines::Lines;
+use crate::state::State;
+use corrections::Entry;
 
-// Where the lines of correction n end that begin at `from`, of so many lines.
-fn lines_end(owners: &[u32], count: usize, from: usize, n: usize) -> usize
-    requires { (count ≤ 444) × (from ≤ count) × (length owners.now ≡ 444) }
-    ensures { ForOwners owners.now (λ index. result ≡ from + leading_lines n (entries_from index from (count - from))) × (result ≤ count) }
+// How many of the lines in front are of correction n.
+fn leading_lines(entries: &[Entry], n: usize) -> usize
+    ensures { result ≡ leading_lines n entries.now }
 {
-    let mut k = from;
-    while k < count {
-        let owner = owners[k] as usize;
-        if owner != n {
+    for k in 0..entries.len() {
+        if entries[k].correction as usize != n {
             return k;
         }
-        k += 1;
     }
-    k
+    entries.len()
 }
 
-// Applies correction n if it is marked; otherwise the state stays as it is.
-fn correct_if<'a>(
-    marked: bool,
-    frozen: &'a [u8],
-    log: &'a [u8],
-    pass: Pass,
-    known: &[u32],
-    letters: &[u8],
-    offsets: &[u32],
-    from: usize,
-    to: usize,
-    n: usize,
-    at: &mut [u32],
-    count: usize,
-) -> Corrected
-    requires { Row count at.old × (to ≤ 444) × Offsets offsets.now × (length letters.now ≡ 444) × InOrder frozen.now log.now pass.rising (in_use (held count at.old)) × Known frozen.now log.now known.now }
-    ensures { ForLines letters.now offsets.now (λ index.
-        Comes result at.new (corrected_if frozen.now log.now pass.judging marked n (entries_from index from (to - from)) (in_use (held count at.old)))) }
-{
-    if marked {
-        return correct(
-            frozen, log, pass, known, letters, offsets, from, to, n, &mut *at, count,
-        );
-    }
-    let trouble = line_trouble(0);
-    Corrected {
-        verdict: Ok(()),
-        count,
-        trouble,
-    }
-}
-
-// Applies the corrections of the index that are marked, in order, to a state.
-pub(crate) fn run_marked<'a>(
-    frozen: &'a [u8],
-    log: &'a [u8],
-    pass: Pass,
-    known: &[u32],
-    index: Index,
+// Applies those of so many corrections that are marked, in order, to a state. The lines of all stand one after the other.
+pub(crate) fn run_marked(
+    state: &mut State,
+    lines: Lines,
+    total: usize,
     marks: &[u8],
-    at: &mut [u32],
-    count: usize,
-) -> Corrected
-    requires { Row count at.old × (index.count ≤ 444) × Within index × InOrder frozen.now log.now pass.rising (in_use (held count at.old)) × Known frozen.now log.now known.now }
-    ensures { Comes result at.new (ran_by pass.judging frozen.now log.now (marked marks.now) 1 (corrections_of index) (in_use (held count at.old))) }
+) -> Result<(), Stopped>
+    ensures { Comes state.old (ran_by state.old.judging state.old.frozen state.old.log (marked marks.now) 1 (by_correction 1 total lines.entry.entries.now) state.old.sources) result state.new }
 {
-    let total = index.corrections;
-    let lines = index.count;
-    let letters = index.kind;
-    let offsets = index.at;
-    let owners = index.correction;
-    let mut standing = count;
-    let mut k = 0;
-    let mut n = 0;
-    while n < total {
-        let to = lines_end(&owners, lines, k, n + 1);
-        let marked = is_marked(marks, n + 1);
-        let next = correct_if(
-            marked,
-            frozen,
-            log,
-            pass,
-            known,
-            &letters,
-            &offsets,
-            k,
-            to,
-            n + 1,
-            &mut *at,
-            standing,
-        );
-        let verdict = next.verdict;
-        match verdict {
-            Ok(()) => {}
-            Err(_) => {
-                return next;
-            }
+    let mut rest = lines;
+    for n in 0..total {
+        let (own, behind) = rest.split_at(leading_lines(rest.entries, n + 1));
+        rest = behind;
+        if !is_marked(marks, n + 1) {
+            continue;
         }
-        standing = next.count;
-        k = to;
-        n += 1;
+        correct(state, own, n + 1)?;
     }
-    let trouble = line_trouble(0);
-    Corrected {
-        verdict: Ok(()),
-        count: standing,
-        trouble,
-    }
+    Ok(())
 }

@@ -1,304 +1,259 @@
-// The state of a file under corrections: the sources of its records, in rising order of place. It lies in a row of 480, of which so many
-// count, and is changed in place. Assumes of its callers, all in this crate, that no more than 480 sources count, and that places rise where
-// that is said.
+// The state of a file under corrections: the sources of its records, in rising order of place, which a change puts in and takes out.
 //
-// A place is searched by halves where places rise, in at most nine comparisons of 29 bytes, and otherwise in turn.
-ghost use Rattle.std.specs.Prelude.{◌≡◌, true, map, ◌+◌, ◌-◌, ◌≤◌, ◌<◌, length, drop};
-ghost use Rattle.slices.specs.Part.{part};
+// A place is searched by halves where places rise, in at most ten comparisons of 29 bytes, and otherwise in turn.
+ghost use Rattle.std.specs.Prelude.{◌≡◌, true, not, map, ◌≤◌, length, drop, take, is_some, IfSome};
 ghost use Rattle.slices.specs.Order.{order};
-ghost use Rattle.std.specs.declared.cmp.Ordering.TheVariants.{Equal};
+ghost use Rattle.routes.specs.Known.{Known};
 ghost use Rattle.routes.specs.Places.{place_of, Rising};
-ghost use Rattle.routes.specs.Sources.{record_at, in_use, sources_in, sources_for};
+ghost use Rattle.routes.specs.Sources.{record_at, in_use, sources_for};
+ghost use Rattle.routes.specs.Walk.{walked};
+ghost use Rattle.applying.specs.Apply.{same_route};
 ghost use Rattle.applying.specs.State.{
   not_less,
-  put_at,
-  left_out,
+  not_before,
   count_before,
   has_place,
   is_record,
   with_source,
   without_record,
   InOrder,
-  held,
-  Row,
   Gives,
 };
 
-use refusals::MOST_RECORDS;
-use routes::{RECORD_WIDTH, Sources, record_at};
+use refusals::{MOST_RECORDS, Verdict};
+use routes::{RECORD_WIDTH, Sources, Texts, judge_known, judge_range};
 use slices::{compare, same};
 use std::cmp::Ordering;
+use std::marker::Model;
 
-// A change of a state: whether it could be made, and how many sources count after it.
-#[derive(Clone, Copy)]
-pub(crate) struct Change {
-    pub done: bool,
-    pub count: usize,
+// The state of a file: no more than 480 sources, whether their places rise, and where routes are judged a table of the records that are
+// known to be legal.
+#[derive(Drop)]
+pub(crate) struct State<'a> {
+    texts: Texts<'a>,
+    known: Option<&'a [u32]>,
+    rising: bool,
+    sources: Sources,
 }
 
-// How the places of two records of one route stand to each other: columns 27-29, then 39.
-fn order_on_route(a: &[u8], b: &[u8]) -> Ordering
-    ensures { order (part 25 0 a.now) (part 25 0 b.now) ≡ Equal → result ≡ order (place_of a.now) (place_of b.now) }
-{
-    let sequence = compare(a, 26, b, 26, 3);
-    match sequence {
-        Ordering::Less => Ordering::Less,
-        Ordering::Equal => compare(a, 38, b, 38, 1),
-        Ordering::Greater => Ordering::Greater,
-    }
+impl<'a> Model for State<'a> {
+    ghost use Rattle.std.specs.Prelude.{◌≡◌, ◌≤◌, length, is_some, IfSome};
+    ghost use Rattle.routes.specs.Known.{Known};
+    ghost use Rattle.routes.specs.Sources.{in_use};
+    ghost use Rattle.applying.specs.State.{InOrder, Standing};
+
+    ghost Value = { Standing };
+
+    ghost view = { λ s. record {
+      frozen = s.texts.frozen.now;
+      log = s.texts.log.now;
+      judging = is_some s.known;
+      sources = in_use s.sources;
+    } };
+
+    ghost invariant = { λ s. (s.sources.count ≤ 480) × (length s.sources.at ≡ 480)
+        × InOrder s.texts.frozen.now s.texts.log.now s.rising (in_use s.sources)
+        × IfSome s.known (λ k. Known s.texts.frozen.now s.texts.log.now k.now) };
 }
 
 // How the places of two records stand to each other: columns 1-25, then 27-29 and 39.
 fn place_order(a: &[u8], b: &[u8]) -> Ordering
     ensures { result ≡ order (place_of a.now) (place_of b.now) }
 {
-    let key = compare(a, 0, b, 0, 25);
-    match key {
-        Ordering::Less => Ordering::Less,
-        Ordering::Equal => order_on_route(a, b),
-        Ordering::Greater => Ordering::Greater,
-    }
+    compare(a, 0, b, 0, 25)
+        .then_with(|| compare(a, 26, b, 26, 3))
+        .then_with(|| compare(a, 38, b, 38, 1))
 }
 
 // Whether the first record's place is not before the second's.
 fn reaches(a: &[u8], b: &[u8]) -> bool
     ensures { result ≡ not_less (order (place_of a.now) (place_of b.now)) }
 {
-    let way = place_order(a, b);
-    match way {
-        Ordering::Less => false,
-        Ordering::Equal => true,
-        Ordering::Greater => true,
-    }
+    place_order(a, b).is_ge()
 }
 
-// Whether the places of a state rise. Asked once; every change of the state keeps it so.
-pub(crate) fn rises<'a>(frozen: &'a [u8], log: &'a [u8], at: &[u32], count: usize) -> bool
-    requires { Row count at.now }
-    ensures { InOrder frozen.now log.now result (in_use (held count at.now)) }
+// Whether the places of some sources rise. Asked once; every change of a state keeps it so.
+fn rises<'a>(texts: Texts<'a>, sources: &[u32]) -> bool
+    ensures { InOrder texts.entry.frozen.now texts.entry.log.now result sources.now }
 {
-    let mut i = 1;
-    while i < count {
-        let source = at[i - 1];
-        let next = at[i];
-        let a = record_at(frozen, log, source);
-        let b = record_at(frozen, log, next);
-        if reaches(a, b) {
+    for i in 1..sources.len() {
+        if reaches(texts.record(sources[i - 1]), texts.record(sources[i])) {
             return false;
         }
-        i += 1;
     }
     true
 }
 
-// How many records stand before one, in any state.
-fn count_in_turn<'a>(
-    frozen: &'a [u8],
-    log: &'a [u8],
-    at: &[u32],
-    count: usize,
-    rec: &'a [u8],
-) -> usize
-    requires { Row count at.now }
-    ensures { result ≡ count_before frozen.now log.now rec.now (in_use (held count at.now)) }
+// How many records stand before one, among any.
+fn count_in_turn<'a>(texts: Texts<'a>, sources: &[u32], rec: &[u8]) -> usize
+    ensures { result ≡ count_before texts.entry.frozen.now texts.entry.log.now rec.now sources.now }
 {
-    let mut i = 0;
-    while i < count {
-        let source = at[i];
-        let other = record_at(frozen, log, source);
-        if reaches(other, rec) {
+    for i in 0..sources.len() {
+        if reaches(texts.record(sources[i]), rec) {
             return i;
         }
-        i += 1;
     }
-    i
+    sources.len()
 }
 
-// The same where places rise: all before `low` stand before the record, and none from `high` on.
-pub(crate) fn count_by_halves<'a>(
-    frozen: &'a [u8],
-    log: &'a [u8],
-    at: &[u32],
-    count: usize,
-    rec: &'a [u8],
-) -> usize
-    requires { Row count at.now × Rising (map place_of (map (record_at frozen.now log.now) (in_use (held count at.now)))) }
-    ensures { result ≡ count_before frozen.now log.now rec.now (in_use (held count at.now)) }
+// The same where places rise.
+fn count_by_halves<'a>(texts: Texts<'a>, sources: &[u32], rec: &[u8]) -> usize
+    requires { Rising (map place_of (map (record_at texts.frozen.now texts.log.now) sources.now)) }
+    ensures { result ≡ count_before texts.entry.frozen.now texts.entry.log.now rec.now sources.now }
 {
-    let mut low = 0;
-    let mut high = count;
-    while low < high {
-        let middle = low + (high - low) / 2;
-        let source = at[middle];
-        let other = record_at(frozen, log, source);
-        if reaches(other, rec) {
-            high = middle;
-        } else {
-            low = middle + 1;
+    sources.partition_point(
+        |source: &u32| -> bool
+            ensures { result ≡ not (not_before texts.entry.frozen.now texts.entry.log.now rec.entry.now source.now) }
+        { !reaches(texts.record(*source), rec) },
+    )
+}
+
+// Some sources by themselves, with zeros past them.
+pub(crate) fn listed(sources: &[u32]) -> Sources
+    requires { length sources.now ≤ 480 }
+    ensures { result ≡ sources_for sources.now }
+{
+    let mut at = [0u32; MOST_RECORDS];
+    at[..sources.len()].copy_from_slice(sources);
+    Sources {
+        count: sources.len(),
+        at,
+    }
+}
+
+impl<'a> State<'a> {
+    // The state of some sources.
+    pub(crate) fn new(texts: Texts<'a>, known: Option<&'a [u32]>, sources: Sources) -> Self
+        requires { (sources.count ≤ 480) × IfSome known (λ k. Known texts.frozen.now texts.log.now k.now) }
+        ensures { result ≡ record {
+          frozen = texts.entry.frozen.now;
+          log = texts.entry.log.now;
+          judging = is_some known.entry;
+          sources = in_use sources;
+        } }
+    {
+        let rising = rises(texts, &sources.at[..sources.count]);
+        State {
+            texts,
+            known,
+            rising,
+            sources,
         }
     }
-    low
-}
 
-// How many records stand before one.
-fn count_before<'a>(
-    frozen: &'a [u8],
-    log: &'a [u8],
-    rising: bool,
-    at: &[u32],
-    count: usize,
-    rec: &'a [u8],
-) -> usize
-    requires { Row count at.now × InOrder frozen.now log.now rising (in_use (held count at.now)) }
-    ensures { result ≡ count_before frozen.now log.now rec.now (in_use (held count at.now)) }
-{
-    if rising {
-        return count_by_halves(frozen, log, at, count, rec);
+    // The sources that count.
+    pub(crate) fn sources(&self) -> &[u32]
+        ensures sources { result.now ≡ self.now.sources }
+        ensures few { length self.now.sources ≤ 480 }
+    {
+        &self.sources.at[..self.sources.count]
     }
-    count_in_turn(frozen, log, at, count, rec)
-}
 
-// Whether there is a record at i, and it has the place of another.
-fn has_place<'a>(
-    frozen: &'a [u8],
-    log: &'a [u8],
-    at: &[u32],
-    count: usize,
-    i: usize,
-    rec: &'a [u8],
-) -> bool
-    requires { Row count at.now }
-    ensures { result ≡ has_place frozen.now log.now rec.now (drop i (in_use (held count at.now))) }
-{
-    if count <= i {
-        return false;
+    // Whether it is known that their places rise.
+    pub(crate) fn rises(&self) -> bool
+        ensures { InOrder self.now.frozen self.now.log result self.now.sources }
+    {
+        self.rising
     }
-    let source = at[i];
-    let other = record_at(frozen, log, source);
-    let way = place_order(other, rec);
-    match way {
-        Ordering::Less => false,
-        Ordering::Equal => true,
-        Ordering::Greater => false,
-    }
-}
 
-// Whether there is a record at i, and it is another byte for byte.
-fn is_record<'a>(
-    frozen: &'a [u8],
-    log: &'a [u8],
-    at: &[u32],
-    count: usize,
-    i: usize,
-    rec: &'a [u8],
-) -> bool
-    requires { Row count at.now }
-    ensures { result ≡ is_record frozen.now log.now rec.now (drop i (in_use (held count at.now))) }
-{
-    if count <= i {
-        return false;
+    // Whether the routes that a correction names are judged.
+    pub(crate) fn judges(&self) -> bool
+        ensures { result ≡ self.now.judging }
+    {
+        self.known.is_some()
     }
-    let source = at[i];
-    let other = record_at(frozen, log, source);
-    same(other, 0, rec, 0, RECORD_WIDTH)
-}
 
-// Puts one more source in at i: what stood there and behind it moves one on.
-fn put_at(at: &mut [u32], count: usize, i: usize, source: u32)
-    requires { (i ≤ count) × (count < 480) × (length at.old ≡ 480) }
-    ensures { in_use (held (count + 1) at.new) ≡ put_at i source (in_use (held count at.old)) }
-{
-    let mut carried = source;
-    let mut k = i;
-    while k < count {
-        let next = at[k];
-        at[k] = carried;
-        carried = next;
-        k += 1;
+    // The record of a source.
+    pub(crate) fn record(&self, source: u32) -> &'a [u8]
+        ensures { result.now ≡ record_at self.now.frozen self.now.log source }
+    {
+        self.texts.record(source)
     }
-    at[count] = carried;
-}
 
-// Leaves the source at i out: what stood behind it moves one back.
-fn leave_out(at: &mut [u32], count: usize, i: usize)
-    requires { (i < count) × (count ≤ 480) × (length at.old ≡ 480) }
-    ensures { in_use (held (count - 1) at.new) ≡ left_out i (in_use (held count at.old)) }
-{
-    let last = count - 1;
-    let mut k = i;
-    while k < last {
-        let next = at[k + 1];
-        at[k] = next;
-        k += 1;
+    // Whether the records of two sources are of one route.
+    pub(crate) fn same_route(&self, a: u32, b: u32) -> bool
+        ensures { result ≡ same_route self.now.frozen self.now.log a b }
+    {
+        crate::same_route(self.texts.frozen, self.texts.log, a, b)
     }
-}
 
-// Puts a source in by its record's place. Not done where that place is taken, or the state is full.
-pub(crate) fn put_in<'a>(
-    frozen: &'a [u8],
-    log: &'a [u8],
-    rising: bool,
-    at: &mut [u32],
-    count: usize,
-    source: u32,
-) -> Change
-    requires { Row count at.old × InOrder frozen.now log.now rising (in_use (held count at.old)) }
-    ensures { Gives result at.new (with_source frozen.now log.now source (in_use (held count at.old))) }
-{
-    let rec = record_at(frozen, log, source);
-    let i = count_before(frozen, log, rising, &*at, count, rec);
-    if MOST_RECORDS <= count {
-        return Change { done: false, count };
+    // Judges the records of the sources from one on up to another, as those of a route.
+    pub(crate) fn judge(&self, from: usize, to: usize) -> Verdict
+        ensures { result ≡ walked (map (record_at self.now.frozen self.now.log) (drop from (take to self.now.sources))) }
+    {
+        match self.known {
+            Some(known) => judge_known(
+                self.texts.frozen,
+                self.texts.log,
+                known,
+                self.sources,
+                from,
+                to,
+            ),
+            None => judge_range(self.texts.frozen, self.texts.log, self.sources, from, to),
+        }
     }
-    if has_place(frozen, log, &*at, count, i, rec) {
-        return Change { done: false, count };
-    }
-    put_at(&mut *at, count, i, source);
-    Change {
-        done: true,
-        count: count + 1,
-    }
-}
 
-// Takes a record out. Not done where it does not stand in the state, byte for byte.
-pub(crate) fn take_out<'a>(
-    frozen: &'a [u8],
-    log: &'a [u8],
-    rising: bool,
-    at: &mut [u32],
-    count: usize,
-    rec: &'a [u8],
-) -> Change
-    requires { Row count at.old × InOrder frozen.now log.now rising (in_use (held count at.old)) }
-    ensures { Gives result at.new (without_record frozen.now log.now rec.now (in_use (held count at.old))) }
-{
-    let i = count_before(frozen, log, rising, &*at, count, rec);
-    if is_record(frozen, log, &*at, count, i, rec) {
-        leave_out(&mut *at, count, i);
-        return Change {
-            done: true,
-            count: count - 1,
-        };
+    // How many records stand before one.
+    pub(crate) fn count_before(&self, rec: &[u8]) -> usize
+        ensures { result ≡ count_before self.now.frozen self.now.log rec.now self.now.sources }
+    {
+        if self.rising {
+            return count_by_halves(self.texts, self.sources(), rec);
+        }
+        count_in_turn(self.texts, self.sources(), rec)
     }
-    Change { done: false, count }
-}
 
-// The sources of a row from one on up to another, with zeros past them.
-pub(crate) fn range_of(at: &[u32], from: usize, to: usize) -> Sources
-    requires { (from ≤ to) × (to ≤ 480) × (length at.now ≡ 480) }
-    ensures { result ≡ sources_for (sources_in (held 480 at.now) from to) }
-{
-    let mut found = Sources {
-        count: 0,
-        at: [0u32; MOST_RECORDS],
-    };
-    let mut i = from;
-    while i < to {
-        let k = found.count;
-        let source = at[i];
-        found.at[k] = source;
-        found.count = k + 1;
-        i += 1;
+    // Whether there is a record at i, and it has the place of another.
+    fn has_place(&self, i: usize, rec: &[u8]) -> bool
+        ensures { result ≡ has_place self.now.frozen self.now.log rec.now (drop i self.now.sources) }
+    {
+        match self.sources().get(i) {
+            Some(source) => place_order(self.record(*source), rec).is_eq(),
+            None => false,
+        }
     }
-    found
+
+    // Whether there is a record at i, and it is another byte for byte.
+    fn is_record(&self, i: usize, rec: &[u8]) -> bool
+        ensures { result ≡ is_record self.now.frozen self.now.log rec.now (drop i self.now.sources) }
+    {
+        match self.sources().get(i) {
+            Some(source) => same(self.record(*source), 0, rec, 0, RECORD_WIDTH),
+            None => false,
+        }
+    }
+
+    // Puts a source in by its record's place, and says whether it could: not where that place is taken, or the state is full.
+    pub(crate) fn put_in(&mut self, source: u32) -> bool
+        ensures { Gives self.old (with_source self.old.frozen self.old.log source self.old.sources) result self.new }
+    {
+        let rec = self.record(source);
+        let i = self.count_before(rec);
+        let count = self.sources.count;
+        if MOST_RECORDS <= count {
+            return false;
+        }
+        if self.has_place(i, rec) {
+            return false;
+        }
+        self.sources.at.copy_within(i..count, i + 1);
+        self.sources.at[i] = source;
+        self.sources.count = count + 1;
+        true
+    }
+
+    // Takes a record out, and says whether it could: not where it does not stand in the state, byte for byte.
+    pub(crate) fn take_out(&mut self, rec: &[u8]) -> bool
+        ensures { Gives self.old (without_record self.old.frozen self.old.log rec.now self.old.sources) result self.new }
+    {
+        let i = self.count_before(rec);
+        if !self.is_record(i, rec) {
+            return false;
+        }
+        let count = self.sources.count;
+        self.sources.at.copy_within(i + 1..count, i);
+        self.sources.count = count - 1;
+        true
+    }
 }

@@ -1,17 +1,31 @@
-// Reads `frozen.txt` and `log.txt`, and prints how many records and corrections there are, or the refusal. Of each file at most one byte past
-// its limit is read, so that one that is too long is seen to be. A write that fails ends the program with an error. Assumes nothing.
+// Reads `frozen.txt` and `log.txt`, and prints how many records and corrections there are, or the refusal. A write that fails ends the program
+// with an error. Assumes nothing.
 #![tactic(auto)]
 
+ghost use Rattle.std.specs.Prelude.{refl};
+ghost use Rattle.answers.specs.Answers.{check_answer};
+ghost use Rattle.answers.proofs.Lengths.{check_fits};
+
+use answers::{Answer, LONGEST_CHECK};
+use running::{Program, print_answer};
 use std::io;
-use std::io::Write;
+
+struct CheckLog;
+
+impl Program<LONGEST_CHECK> for CheckLog {
+    ghost text = { λ frozen log _. check_answer frozen log };
+
+    const WANTS: bool = false;
+
+    fn answer(frozen: &[u8], log: &[u8], _want: &[u8], out: &mut [u8; LONGEST_CHECK]) -> Answer {
+        answers::check_answer(frozen, log, out)
+    }
+
+    ghost fits = { λ frozen log _. check_fits frozen log };
+
+    ghost small = { refl };
+}
 
 fn main(rt: HostRuntime) -> io::Result<()> {
-    let mut frozen = [0u8; answers::FROZEN_READ];
-    let f = folder::read(&rt, b"frozen.txt", &mut frozen);
-    let mut log = [0u8; answers::LOG_READ];
-    let l = folder::read(&rt, b"log.txt", &mut log);
-    let mut out = [0u8; answers::LONGEST_CHECK];
-    let answer = answers::check_answer(&frozen[..f], &log[..l], &mut out);
-    let n = answer.length;
-    io::writer(&rt).write_all(&out[..n])
+    print_answer::<CheckLog, _, _, LONGEST_CHECK>(&rt, &mut io::writer(&rt))
 }

@@ -3,15 +3,13 @@
 use Rattle.std.specs.Prelude.{Result, Ok, Err}
 use mathlib.Core.Path.{◌≡◌, refl}
 use mathlib.Core.List.{List, [], ◌++◌}
-use Prim.Native.Nat.{ℕ, ◌+◌, ◌≤◌, ◌<◌}
+use Prim.Native.Nat.{ℕ, ◌+◌, ◌≤◌}
 use native.Mathlib.Omega.{arith}
 use lib.ListN.{length, replicate, length-append}
 use Rattle.slices.proofs.WriteLaws.{sets-append, stored_front}
 use Rattle.refusals.specs.declared.Refusal.{Refusal}
-use Rattle.corrections.specs.declared.lines.Line.{Line}
-use Rattle.corrections.specs.declared.lines.Line.TheVariants.{TakenOut, PutIn}
 use Rattle.corrections.specs.declared.Index.{Index}
-use Rattle.corrections.specs.Reading.{Entry, no_entry, Reading, refused, said, entries_of, with_entries, index_with, grown}
+use Rattle.corrections.specs.Reading.{Entry, no_entry, Reading, refused, said, with_entries, index_with, grown}
 
 pub grown_none : (i : Index) → grown i i.corrections [] ≡ i
 grown_none i = let e : i.count + 0 ≡ i.count = omega arith in rw e
@@ -29,14 +27,6 @@ pub grown_empty : (n : ℕ) (es : List Entry) → length es ≤ 444 → grown (i
 unfolding index_with
 grown_empty n es h =
     let e : 0 + length es ≡ length es = omega arith in rw (e, stored_front no_entry 444 es h)
-
--- room for a line of the index is room for it among the entries
-module _ (n begun at : ℕ) {l : Line} (h : n + length (entries_of begun at l) ≤ 444) where
-  pub taken_fits : l ≡ TakenOut → n < 444
-  taken_fits e = let q : n + 1 ≤ 444 = rw e at h in omega arith
-
-  pub put_fits : l ≡ PutIn → n < 444
-  put_fits e = let q : n + 1 ≤ 444 = rw e at h in omega arith
 
 -- what is read is put behind what the index has; a refusal leaves nothing of it
 unfoldable pub onto : Index → Reading → Result Index Refusal

@@ -1,22 +1,25 @@
 -- How far bytes go along with a form: bounds, one turn of a loop along its places, and the places of the three forms.
 -- Assumes nothing.
+use Rattle.std.specs.Prelude.{Option, None, Some, MatchOption}
+use Rattle.std.specs.Option.{unwrap_or}
+use Rattle.std.specs.List.{list_all}
+use Rattle.std.specs.Cmp.Lexicographic.{pointwise}
+use Rattle.std.proofs.Math.Bool.{and_comm}
 use mathlib.Core.Path.{◌≡◌, refl, sym, ap, subst, ◌∙◌}
-use mathlib.Core.Bool.{Bool, true, false, cond, ◌&&◌, and-true, and-false, and_assoc}
-use mathlib.Core.List.{List, [], ◌∷◌, ◌++◌, map}
+use mathlib.Core.Bool.{Bool, true, false, ◌&&◌, and-true, and_assoc}
+use mathlib.Core.List.{List, [], ◌∷◌, ◌++◌, map, append_assoc}
 use Prim.Native.Nat.{ℕ, zero, suc, ◌+◌, ◌-◌, ◌/◌, ◌%◌, ◌≤◌, ◌<◌}
 use native.Mathlib.Omega.{arith}
 use native.Mathlib.Nat.{le_of_suc-le-suc, not-suc-le-zero}
-use native.Mathlib.Decide.{dec_lt}
 use lib.Dec.{eqb, ltb, eqb-suc-suc, eqb-zero-suc}
-use lib.ListN.{length, get_or, take, drop, replicate, length-append, length-map, length-drop, drop_of_length-le}
-use lib.ListN.{get_or-eq_default, get_or-append, get_or-map, get_or-replicate}
-use lib.Seq.{drop-cons, get_or-take}
-use borrow.Author.Tests.{eq-eqb, ne_eqb, ltb-true, ltb-false}
+use lib.ListN.{length, get_or, take, drop, replicate, take-append-drop, length-append, length-map, drop_of_length-le}
+use lib.ListN.{get_or-append, get_or-map, get_or-replicate}
+use lib.Seq.{drop-cons, length-take-le}
+use borrow.Author.Tests.{eq-eqb, ne_eqb, eqb-true, eqb-false, ltb-true, ltb-false}
 use Rattle.slices.proofs.Cases.{split}
-use Rattle.slices.proofs.PartLaws.{one_less}
 use Rattle.digits.specs.Decimal.{decimal}
-use Rattle.digits.proofs.DecimalLaws.{decimal_width, decimal_ones, decimal_tens, decimal_hundreds, width_below_1000}
-use Rattle.corrections.specs.Lines.{Span, exactly, printable, allows, Form, ended, heading, change, reach, reach_at, whole, whole_at, printables}
+use Rattle.digits.proofs.DecimalLaws.{decimal_width, decimal_ones, decimal_tens, decimal_hundreds}
+use Rattle.corrections.specs.Lines.{Span, exactly, printable, allows, Form, ended, heading, change, reach, whole}
 
 -- no further than the form, and no further than the bytes
 pub reach_within : (f : Form) (bs : List ℕ) → reach f bs ≤ length f
@@ -31,86 +34,79 @@ reach_length [] bs = omega arith
 reach_length (s ∷ f) [] = omega arith
 reach_length (s ∷ f) (b ∷ bs) = split (allows s b) (λ e. rw e (omega (arith, reach_length f bs))) (λ e. rw e (omega arith))
 
--- ---- along a form that lets no 0 in, so past the log's end too, where a byte reads as 0
+-- ---- along a form that lets no 0 in, so past the last byte too, where it reads as 0
 
 abbrev NoZero : Form → Type 0
 NoZero [] = Unit {0}
 NoZero (s ∷ f) = (allows s 0 ≡ false) × NoZero f
 
-no_zero_at : (f : Form) (k : ℕ) → NoZero f → k < length f → allows (get_or f k (exactly 0)) 0 ≡ false
-no_zero_at [] k z h = absurd (not-suc-le-zero h)
-no_zero_at (s ∷ f) zero z h = z.0
-no_zero_at (s ∷ f) (suc k) z h = no_zero_at f k z.1 (le_of_suc-le-suc h)
+-- the byte at a place may stand there, or may not
+module _ (f : Form) (bs : List ℕ) where
+  abbrev pub Right : ℕ → Type 0
+  Right k = allows (get_or f k (exactly 0)) (get_or bs k 0) ≡ true
 
--- one place
-reach_at_lem : (s : Span) (f : Form) (i : ℕ) (log : List ℕ) {b : ℕ} → allows s 0 ≡ false → b ≡ get_or log i 0
-    → reach_at (s ∷ f) i log ≡ cond (allows s b) (suc (reach_at f (i + 1) log)) 0
-unfolding reach reach_at
-reach_at_lem s f i log {b} z e = by (dec_lt i (length log))
-  where
-    by : Dec (i < length log) → reach (s ∷ f) (drop i log) ≡ cond (allows s b) (suc (reach f (drop (i + 1) log))) 0
-    by (yes h) = let q : i + 1 ≡ suc i = omega arith in rw (drop-cons log i 0 h, e, q)
-    by (no h) =
-        let past : length log ≤ i = omega arith in
-        let none : b ≡ 0 = e ∙ get_or-eq_default log 0 past in
-        rw (drop_of_length-le log past, none, z)
+  abbrev pub Wrong : ℕ → Type 0
+  Wrong k = allows (get_or f k (exactly 0)) (get_or bs k 0) ≡ false
 
--- whether the whole form stands there, place by place
-whole_at_lem : (s : Span) (f : Form) (i : ℕ) (log : List ℕ) {b : ℕ} → allows s 0 ≡ false → b ≡ get_or log i 0
-    → whole (s ∷ f) (drop i log) ≡ (allows s b && whole f (drop (i + 1) log))
-unfolding whole reach_at
-whole_at_lem s f i log {b} z e =
-    let first : reach (s ∷ f) (drop i log) ≡ cond (allows s b) (suc (reach f (drop (i + 1) log))) 0 = reach_at_lem s f i log z e in
-    split (allows s b) (λ t. rw (first, t) (eqb-suc-suc (reach f (drop (i + 1) log)) (length f))) (λ t. rw (first, t) (eqb-zero-suc (length f)))
+-- they go on to the first that may not, or to the form's end
+reach_stop : (f : Form) (bs : List ℕ) (n : ℕ) → NoZero f → n < length f → Wrong f bs n → ((k : ℕ) → 0 ≤ k → k < n → Right f bs k)
+    → reach f bs ≡ n
+unfolding reach
+reach_stop [] bs n z h w r = absurd (not-suc-le-zero h)
+reach_stop (s ∷ f) [] zero z h w r = refl
+reach_stop (s ∷ f) (b ∷ bs) zero z h w r = rw w
+reach_stop (s ∷ f) [] (suc n) z h w r = let both : true ≡ false = sym (r 0 (omega arith) (omega arith)) ∙ z.0 in absurd cc
+reach_stop (s ∷ f) (b ∷ bs) (suc n) z h w r =
+    rw (r 0 (omega arith) (omega arith))
+    (ap suc (reach_stop f bs n z.1 (le_of_suc-le-suc h) w (λ k a q. r (suc k) (omega arith) (omega arith))))
 
-whole_ended : (i : ℕ) (log : List ℕ) → whole ended (drop i log) ≡ eqb (get_or log i 0) 10
+reach_end : (f : Form) (bs : List ℕ) → NoZero f → ((k : ℕ) → 0 ≤ k → k < length f → Right f bs k) → reach f bs ≡ length f
+unfolding reach
+reach_end [] bs z r = refl
+reach_end (s ∷ f) [] z r = let both : true ≡ false = sym (r 0 (omega arith) (omega arith)) ∙ z.0 in absurd cc
+reach_end (s ∷ f) (b ∷ bs) z r =
+    rw (r 0 (omega arith) (omega arith)) (ap suc (reach_end f bs z.1 (λ k a q. r (suc k) (omega arith) (omega arith))))
+
+reach_first : (f : Form) (bs : List ℕ) → NoZero f → (r : Option ℕ)
+    → MatchOption r ((k : ℕ) → 0 ≤ k → k < length f → Right f bs k)
+    (λ n. (0 ≤ n) × (n < length f) × Wrong f bs n × ((k : ℕ) → 0 ≤ k → k < n → Right f bs k))
+    → unwrap_or r (length f) ≡ reach f bs
+reach_first f bs z None right = sym (reach_end f bs z right)
+reach_first f bs z (Some n) w = sym (reach_stop f bs n z w.1 w.2 w.3)
+
+-- ---- the whole form, place by place
+
+whole_cons : (s : Span) (f : Form) (b : ℕ) (bs : List ℕ) → whole (s ∷ f) (b ∷ bs) ≡ (allows s b && whole f bs)
 unfolding whole reach
-whole_ended i log = whole_at_lem (exactly 10) [] i log refl refl ∙ and-true (eqb (get_or log i 0) 10)
+whole_cons s f b bs =
+    split (allows s b) (λ t. rw t (eqb-suc-suc (reach f bs) (length f))) (λ t. rw t (eqb-zero-suc (length f)))
 
-whole_printables : (n : ℕ) (f : Form) (i : ℕ) (log : List ℕ)
-    → whole (replicate n printable ++ f) (drop i log) ≡ (printables n i log && whole f (drop (i + n) log))
-unfolding printables
-whole_printables zero f i log = let e : i + 0 ≡ i = omega arith in rw e
-whole_printables (suc n) f i log =
-    let e : i + suc n ≡ i + 1 + n = omega arith in
-    whole_at_lem printable (replicate n printable ++ f) i log refl refl
-    ∙ rw (whole_printables n f (i + 1) log, e)
-    (sym (and_assoc (allows printable (get_or log i 0)) (printables n (i + 1) log) (whole f (drop (i + 1 + n) log))))
+whole_end : (rest : List ℕ) → whole [] rest ≡ true
+unfolding whole reach
+whole_end rest = refl
 
-module _ (f : Form) (i : ℕ) (log : List ℕ) (k : ℕ) where
-  -- how far they go, where k places were right
-  unfoldable pub Along : ℕ
-  Along = k + reach_at (drop k f) (i + k) log
+whole_none : (s : Span) (f : Form) → whole (s ∷ f) [] ≡ false
+unfolding whole reach
+whole_none s f = eqb-zero-suc (length f)
 
-  pub along_end : length f ≤ k → Along ≡ k
-  unfolding Along reach reach_at
-  along_end h = rw (drop_of_length-le f h) (omega arith)
+whole_record : (n : ℕ) (f : Form) (bytes rest : List ℕ) → length bytes ≡ n
+    → whole (replicate n printable ++ f) (bytes ++ rest) ≡ (list_all (allows printable) bytes && whole f rest)
+whole_record zero f [] rest h = refl
+whole_record zero f (b ∷ bs) rest h = absurd (omega arith)
+whole_record (suc n) f [] rest h = absurd (omega arith)
+whole_record (suc n) f (b ∷ bs) rest h =
+    whole_cons printable (replicate n printable ++ f) b (bs ++ rest)
+    ∙ rw (whole_record n f bs rest (omega arith)) (sym (and_assoc (allows printable b) (list_all (allows printable) bs) (whole f rest)))
 
-  module _ {b : ℕ} (z : NoZero f) (h : k < length f) (e : b ≡ get_or log (i + k) 0) where
-    along_cons : Along ≡ k + cond (allows (get_or f k (exactly 0)) b) (suc (reach_at (drop (suc k) f) (i + k + 1) log)) 0
-    unfolding Along
-    along_cons =
-        rw (drop-cons f k (exactly 0) h)
-        (ap (λ (n : ℕ). k + n) (reach_at_lem (get_or f k (exactly 0)) (drop (suc k) f) (i + k) log (no_zero_at f k z h) e))
+-- of a text: the bytes begin with it
+either_way : (a b : ℕ) → eqb a b ≡ eqb b a
+either_way a b =
+    split (eqb a b) (λ e. rw (e, eq-eqb b a (sym (eqb-true a b e)))) (λ e. rw (e, ne_eqb b a (λ q. eqb-false a b e (sym q))))
 
-    along_stop : allows (get_or f k (exactly 0)) b ≡ false → Along ≡ k
-    along_stop t = along_cons ∙ rw t (omega arith)
-
-pub along_start : (f : Form) (i : ℕ) (log : List ℕ) → reach_at f i log ≡ Along f i log 0
-unfolding Along
-along_start f i log = let e : i + 0 ≡ i = omega arith in rw e (omega arith)
-
-along_next : (f : Form) (i : ℕ) (log : List ℕ) (k : ℕ) {b : ℕ} → NoZero f → k < length f → b ≡ get_or log (i + k) 0
-    → allows (get_or f k (exactly 0)) b ≡ true → Along f i log k ≡ Along f i log (k + 1)
-unfolding Along
-along_next f i log k z h e t =
-    let q : i + k + 1 ≡ i + (k + 1) = omega arith in
-    let s : suc k ≡ k + 1 = omega arith in
-    along_cons f i log k z h e ∙ rw (t, q, s) (omega arith)
-
-reach_at_most : (f : Form) (i : ℕ) (log : List ℕ) {r : ℕ} → r ≡ reach_at f i log → r ≤ length f
-unfolding reach_at
-reach_at_most f i log e = omega (arith, reach_within f (drop i log))
+whole_text : (text bs : List ℕ) → pointwise eqb text (take (length text) bs) ≡ whole (map exactly text) bs
+whole_text [] bs = sym (whole_end bs)
+whole_text (t ∷ ts) [] = sym (whole_none (exactly t) (map exactly ts))
+whole_text (t ∷ ts) (b ∷ bs) = sym (whole_cons (exactly t) (map exactly ts) b bs ∙ rw (← whole_text ts bs, either_way b t))
 
 -- ---- the heading of a correction
 
@@ -146,26 +142,38 @@ module _ (n : ℕ) where
       digit : (m : ℕ) → eqb 0 (m % 10 + 48) ≡ false
       digit m = ne_eqb 0 (m % 10 + 48) (λ (z : 0 ≡ m % 10 + 48). omega arith)
 
-  -- it begins with its letter
-  pub heading_other : (i : ℕ) (log : List ℕ) {b : ℕ} → b ≡ get_or log i 0 → (b ≡ 67 → ⊥) → false ≡ whole_at (heading n) i log
-  unfolding heading whole_at
-  heading_other i log {b} e q = sym (whole_at_lem (exactly 67) _ i log refl e ∙ rw (ne_eqb b 67 q))
+  -- it begins with its letter, and some bytes begin with it or don't
+  pub heading_other : (bs : List ℕ) {b : ℕ} → b ≡ get_or bs 0 0 → (b ≡ 67 → ⊥) → eqb b 67 ≡ whole (heading n) bs
+  unfolding heading
+  heading_other [] {b} e q = ne_eqb b 67 q ∙ sym (whole_none (exactly 67) _)
+  heading_other (c ∷ cs) {b} e q = ne_eqb b 67 q ∙ sym (whole_cons (exactly 67) _ c cs ∙ rw (← e, ne_eqb b 67 q))
 
-  pub heading_six : n < 1000 → length (heading n) ≤ 6
-  heading_six h = omega (arith, heading_width, width_below_1000 n h)
+  pub heading_whole : (text bs : List ℕ) → map exactly text ≡ heading n → pointwise eqb text (take (length text) bs) ≡ whole (heading n) bs
+  heading_whole text bs e = whole_text text bs ∙ ap (λ (f : Form). whole f bs) e
 
--- one turn of the loop along its bytes, which stand in front of others
-module _ (n i : ℕ) (log bytes : List ℕ) (k : ℕ) {w b : ℕ} (small : n < 1000) (width : w ≡ length (heading n))
-    (text : map exactly (take w bytes) ≡ heading n) (h : k < w) (e : b ≡ get_or log (i + k) 0) where
-  place : get_or (heading n) k (exactly 0) ≡ exactly (get_or bytes k 0)
-  place =
-      ap (λ (f : Form). get_or f k (exactly 0)) (sym text) ∙ get_or-map exactly (take w bytes) k 0 ∙ ap exactly (get_or-take w bytes k 0 h)
+-- how far they go along with its text
+module _ (n : ℕ) (bs text : List ℕ) (small : n < 1000) (e : map exactly text ≡ heading n) where
+  as_wide : length text ≡ length (heading n)
+  as_wide = sym (length-map text exactly) ∙ ap length e
 
-  pub heading_stop : (b ≡ get_or bytes k 0 → ⊥) → Along (heading n) i log k ≡ k
-  heading_stop q = along_stop (heading n) i log k (heading_no_zero n small) (omega arith) e (rw place (ne_eqb b (get_or bytes k 0) q))
+  place : (k : ℕ) → get_or (heading n) k (exactly 0) ≡ exactly (get_or text k 0)
+  place k = ap (λ (f : Form). get_or f k (exactly 0)) (sym e) ∙ get_or-map exactly text k 0
 
-  pub heading_next : b ≡ get_or bytes k 0 → Along (heading n) i log k ≡ Along (heading n) i log (k + 1)
-  heading_next q = along_next (heading n) i log k (heading_no_zero n small) (omega arith) e (rw place (eq-eqb b (get_or bytes k 0) q))
+  heading_right : (k : ℕ) → get_or bs k 0 ≡ get_or text k 0 → Right (heading n) bs k
+  heading_right k q = rw (place k) (eq-eqb (get_or bs k 0) (get_or text k 0) q)
+
+  heading_wrong : (k : ℕ) → (get_or bs k 0 ≡ get_or text k 0 → ⊥) → Wrong (heading n) bs k
+  heading_wrong k q = rw (place k) (ne_eqb (get_or bs k 0) (get_or text k 0) q)
+
+  pub heading_first : (r : Option ℕ)
+      → MatchOption r ((k : ℕ) → 0 ≤ k → k < length text → get_or bs k 0 ≡ get_or text k 0)
+      (λ m. (0 ≤ m) × (m < length text) × (get_or bs m 0 ≡ get_or text m 0 → ⊥) × ((k : ℕ) → 0 ≤ k → k < m → get_or bs k 0 ≡ get_or text k 0))
+      → unwrap_or r (length text) ≡ reach (heading n) bs
+  heading_first None right =
+      as_wide ∙ reach_first (heading n) bs (heading_no_zero n small) None (λ k a b. heading_right k (right k a (omega (arith, as_wide))))
+  heading_first (Some m) w =
+      reach_first (heading n) bs (heading_no_zero n small) (Some m)
+      (w.0, omega (arith, as_wide, w.1), heading_wrong m w.2, λ k a b. heading_right k (w.3 k a b))
 
 -- ---- a D or A line
 
@@ -190,82 +198,63 @@ module _ (letter : ℕ) where
   change_record (suc (suc k)) g f h =
       get_or-append (replicate 132 printable) ended (exactly 0) k (omega arith) ∙ get_or-replicate 132 k printable (exactly 0) (omega arith)
 
-  pub change_end : (k : ℕ) → 134 ≤ k → k < 135 → get_or (change letter) k (exactly 0) ≡ exactly 10
-  unfolding change
-  change_end k g h = let e : k ≡ 134 = omega arith in rw e
+-- whether it stands there, by the bytes of the log's part that is as long
+regroup : (a b c d : Bool) → (a && (b && (d && (c && true)))) ≡ (((a && b) && c) && d)
+regroup false b c d = refl
+regroup true false c d = refl
+regroup true true c d = rw (and-true c) (and_comm d c)
 
--- whether it stands there, by its bytes
-module _ (letter i : ℕ) (log : List ℕ) (some : 0 < letter) where
-  change_whole : whole (change letter) (drop i log)
-      ≡ (eqb (get_or log i 0) letter && (eqb (get_or log (i + 1) 0) 9 && (printables 132 (i + 2) log && eqb (get_or log (i + 134) 0) 10)))
+module _ (letter : ℕ) where
+  change_whole : (part rest : List ℕ) → length part ≡ 135 → whole (change letter) (part ++ rest)
+      ≡ (((eqb (get_or part 0 0) letter && eqb (get_or part 1 0) 9) && eqb (get_or part (length part - 1) 0) 10)
+      && list_all (allows printable) (take (length part - 1 - 2) (drop 2 part)))
   unfolding change
-  change_whole =
-      let second : i + 1 + 1 ≡ i + 2 = omega arith in
-      let last : i + 2 + 132 ≡ i + 134 = omega arith in
-      whole_at_lem (exactly letter) (exactly 9 ∷ (replicate 132 printable ++ ended)) i log (ne_eqb 0 letter (λ (z : 0 ≡ letter). omega arith)) refl
+  change_whole [] rest h = absurd (omega arith)
+  change_whole (a ∷ []) rest h = absurd (omega arith)
+  change_whole (a ∷ b ∷ bs) rest h =
+      let last : length (a ∷ b ∷ bs) - 1 ≡ 134 = omega arith in
+      let none : drop 133 bs ≡ [] = drop_of_length-le bs {i = 133} (omega arith) in
+      let parts : bs ≡ take 132 bs ++ get_or bs 132 0 ∷ [] =
+      sym (take-append-drop 132 bs) ∙ ap (λ (l : List ℕ). take 132 bs ++ l) (drop-cons bs 132 0 (omega arith) ∙ ap (λ (l : List ℕ). get_or bs 132 0 ∷ l) none) in
+      let behind : bs ++ rest ≡ take 132 bs ++ get_or bs 132 0 ∷ rest =
+      ap (λ (l : List ℕ). l ++ rest) parts ∙ append_assoc (take 132 bs) (get_or bs 132 0 ∷ []) rest in
+      whole_cons (exactly letter) (exactly 9 ∷ (replicate 132 printable ++ ended)) a (b ∷ (bs ++ rest))
       ∙ rw (
-        whole_at_lem (exactly 9) (replicate 132 printable ++ ended) (i + 1) log refl refl,
-        second,
-        whole_printables 132 ended (i + 2) log,
+        whole_cons (exactly 9) (replicate 132 printable ++ ended) b (bs ++ rest),
+        behind,
+        whole_record 132 ended (take 132 bs) (get_or bs 132 0 ∷ rest) (length-take-le 132 bs (omega arith)),
+        whole_cons (exactly 10) [] (get_or bs 132 0) rest,
+        whole_end rest,
         last,
-        whole_ended (i + 134) log,
-      )
+      ) (regroup (eqb a letter) (eqb b 9) (eqb (get_or bs 132 0) 10) (list_all (allows printable) (take 132 bs)))
 
-  pub change_short : length log < i + 135 → false ≡ whole_at (change letter) i log
-  unfolding whole whole_at
-  change_short h =
-      sym (ne_eqb (reach (change letter) (drop i log)) (length (change letter))
-      (λ q. omega (arith, reach_length (change letter) (drop i log), length-drop i log, change_width letter)))
+  pub change_read : (bs part : List ℕ) → part ≡ take 135 bs → length part ≡ 135
+      → (((eqb (get_or part 0 0) letter && eqb (get_or part 1 0) 9) && eqb (get_or part (length part - 1) 0) 10)
+      && list_all (allows printable) (take (length part - 1 - 2) (drop 2 part))) ≡ whole (change letter) bs
+  change_read bs part e h =
+      sym (change_whole part (drop 135 bs) h)
+      ∙ ap (whole (change letter)) (ap (λ (l : List ℕ). l ++ drop 135 bs) e ∙ take-append-drop 135 bs)
 
-  pub change_other : (get_or log i 0 ≡ letter → ⊥) → false ≡ whole_at (change letter) i log
-  unfolding whole_at
-  change_other q = sym (change_whole ∙ rw (ne_eqb (get_or log i 0) letter q))
+  pub change_short : (bs : List ℕ) → length bs < 135 → false ≡ whole (change letter) bs
+  unfolding whole
+  change_short bs h =
+      sym (ne_eqb (reach (change letter) bs) (length (change letter)) (λ q. omega (arith, reach_length (change letter) bs, change_width letter)))
 
-  pub change_untabbed : (get_or log (i + 1) 0 ≡ 9 → ⊥) → false ≡ whole_at (change letter) i log
-  unfolding whole_at
-  change_untabbed q = sym (change_whole ∙ rw (ne_eqb (get_or log (i + 1) 0) 9 q) (and-false (eqb (get_or log i 0) letter)))
-
-  pub change_unprintable : printables 132 (i + 2) log ≡ false → false ≡ whole_at (change letter) i log
-  unfolding whole_at
-  change_unprintable q = sym (change_whole ∙ rw (q, and-false (eqb (get_or log (i + 1) 0) 9)) (and-false (eqb (get_or log i 0) letter)))
-
-  pub change_ended : get_or log i 0 ≡ letter → get_or log (i + 1) 0 ≡ 9 → printables 132 (i + 2) log ≡ true
-      → eqb (get_or log (i + 134) 0) 10 ≡ whole_at (change letter) i log
-  unfolding whole_at
-  change_ended p q r = sym (change_whole ∙ rw (eq-eqb (get_or log i 0) letter p, eq-eqb (get_or log (i + 1) 0) 9 q, r))
-
--- whether n bytes may stand in a record, of which k were looked at and it is noted whether they may
-pub printable_left : Bool → ℕ → ℕ → List ℕ → ℕ → Bool
-printable_left fine n i log k = fine && printables (n - k) (i + k) log
-
-pub left_start : (n i : ℕ) (log : List ℕ) → printables n i log ≡ printable_left true n i log 0
-unfolding printable_left
-left_start n i log = let e : n - 0 ≡ n = omega arith in let f : i + 0 ≡ i = omega arith in rw (e, f)
-
-pub left_next : (fine : Bool) (n i : ℕ) (log : List ℕ) (k : ℕ) {right : Bool} → k < n → right ≡ allows printable (get_or log (i + k) 0)
-    → printable_left fine n i log k ≡ printable_left (fine && right) n i log (k + 1)
-unfolding printable_left printables
-left_next fine n i log k {right} h q =
-    let e : i + k + 1 ≡ i + (k + 1) = omega arith in
-    rw (one_less n k h, e, ← q) (sym (and_assoc fine right (printables (n - (k + 1)) (i + (k + 1)) log)))
-
-pub left_end : (fine : Bool) (n i : ℕ) (log : List ℕ) (k : ℕ) → n ≤ k → printable_left fine n i log k ≡ fine
-unfolding printable_left printables
-left_end fine n i log k h = let e : n - k ≡ 0 = omega arith in rw e (and-true fine)
-
--- one turn of the loop along its places
-module _ (letter i : ℕ) (log : List ℕ) (k : ℕ) {b : ℕ} {right : Bool} (some : 0 < letter) (h : k < 135) (e : b ≡ get_or log (i + k) 0)
-    (q : right ≡ allows (get_or (change letter) k (exactly 0)) b) where
-  pub change_stop : right ≡ false → Along (change letter) i log k ≡ k
-  change_stop t = along_stop (change letter) i log k (change_no_zero letter some) (omega (arith, change_width letter)) e (sym q ∙ t)
-
-  pub change_next : right ≡ true → Along (change letter) i log k ≡ Along (change letter) i log (k + 1)
-  change_next t = along_next (change letter) i log k (change_no_zero letter some) (omega (arith, change_width letter)) e (sym q ∙ t)
+-- how far they go along with it
+pub change_first : (letter : ℕ) (bs : List ℕ) → 0 < letter → (r : Option ℕ)
+    → MatchOption r ((k : ℕ) → 0 ≤ k → k < 135 → Right (change letter) bs k)
+    (λ m. (0 ≤ m) × (m < 135) × Wrong (change letter) bs m × ((k : ℕ) → 0 ≤ k → k < m → Right (change letter) bs k))
+    → unwrap_or r 135 ≡ reach (change letter) bs
+change_first letter bs some None right =
+    sym (change_width letter)
+    ∙ reach_first (change letter) bs (change_no_zero letter some) None (λ k a b. right k a (omega (arith, change_width letter)))
+change_first letter bs some (Some m) w =
+    reach_first (change letter) bs (change_no_zero letter some) (Some m) (w.0, omega (arith, w.1, change_width letter), w.2, w.3)
 
 -- how far a heading and a D or A line can be gone along with
-module _ (i : ℕ) (log : List ℕ) {r : ℕ} where
-  pub heading_at_most : (n : ℕ) → r ≡ reach_at (heading n) i log → r ≤ 23
-  heading_at_most n e = omega (arith, reach_at_most (heading n) i log e, (heading_short n).1)
+module _ (bs : List ℕ) {r : ℕ} where
+  pub heading_at_most : (n : ℕ) → r ≡ reach (heading n) bs → r ≤ 23
+  heading_at_most n e = omega (arith, reach_within (heading n) bs, (heading_short n).1)
 
-  pub change_at_most : (letter : ℕ) → r ≡ reach_at (change letter) i log → r ≤ 135
-  change_at_most letter e = omega (arith, reach_at_most (change letter) i log e, change_width letter)
+  pub change_at_most : (letter : ℕ) → r ≡ reach (change letter) bs → r ≤ 135
+  change_at_most letter e = omega (arith, reach_within (change letter) bs, change_width letter)

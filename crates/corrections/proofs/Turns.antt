@@ -1,13 +1,14 @@
 -- One turn of the loop over the lines of a log: what its line says of the offsets and counts, and the reading before and after it.
 -- Assumes nothing.
 use Rattle.std.specs.Prelude.{Result, Ok, Err, MatchResult, is_ok}
-use mathlib.Core.Path.{◌≡◌, refl, sym, subst, ◌∙◌}
+use mathlib.Core.Path.{◌≡◌, refl, sym, ap, subst, ◌∙◌}
 use mathlib.Core.Bool.{true, false}
 use mathlib.Core.List.{List, []}
 use Prim.Native.Nat.{ℕ, zero, suc, ◌+◌, ◌-◌, ◌*◌, ◌≤◌, ◌<◌}
 use native.Mathlib.Omega.{arith}
 use lib.Dec.{eqb, ltb}
-use lib.ListN.{length, drop, length-append, length-drop}
+use lib.ListN.{length, take, drop, length-append, length-drop}
+use Rattle.std.proofs.lemmas.List.{take_all}
 use lib.Seq.{drop-drop}
 use borrow.Author.Tests.{eq-eqb, ne_eqb, eqb-true, eqb-false, ltb-true, lt-ltb, le-ltb}
 use Rattle.slices.proofs.Cases.{split}
@@ -18,7 +19,7 @@ use Rattle.refusals.proofs.VerdictLaws.{never}
 use Rattle.corrections.specs.declared.lines.Line.{Line}
 use Rattle.corrections.specs.declared.lines.Line.TheVariants.{Heading, TakenOut, PutIn}
 use Rattle.corrections.specs.declared.Index.{Index}
-use Rattle.corrections.specs.Lines.{Form, heading, change, forms, reach, whole, longest, line_of, line_at}
+use Rattle.corrections.specs.Lines.{Form, heading, change, forms, reach, whole, longest, line_of}
 use Rattle.corrections.specs.Reading.{Entry, Reading, refused, said, line_verdict, begun_after, room_after, width_of, entries_of, with_entries, before, on_line, read, read_log, index_with, index_of, grown}
 use Rattle.corrections.proofs.ReachLaws.{reach_length, heading_short, change_width}
 use Rattle.corrections.proofs.IndexLaws.{grown_none, grown_empty, onto, onto_more}
@@ -81,11 +82,27 @@ advances_by number begun room at bs PutIn (put b h) v = record {
   hundreds = λ u. u;
 }
 
-pub advances : (number begun room at : ℕ) (log : List ℕ) {l : Line} {v : Verdict} → Ok l ≡ line_at begun at log → v ≡ line_verdict number begun room l → v ≡ Accepted
-    → Advances begun at (drop at log) l
-unfolding line_at
-advances number begun room at log {l} e q a =
-    advances_by number begun room at (drop at log) l (subst (Found begun (drop at log)) (sym e) (found begun (drop at log))) (sym q ∙ a)
+-- what is left of a log from an offset on, as it is sliced
+abbrev pub rest : ℕ → List ℕ → List ℕ
+rest at log = take (length log - at) (drop at log)
+
+rest_is : (at : ℕ) (log : List ℕ) → rest at log ≡ drop at log
+rest_is at log = take_all (length log - at) (drop at log) (omega (arith, length-drop at log))
+
+-- the line that `?` hands on is the one that was found
+module _ (begun at : ℕ) (log : List ℕ) (found_line : Result Line ℕ) {l : Line} (Q : ℕ → Type 0) (e : found_line ≡ line_of begun (rest at log))
+    (ok : true ≡ is_ok found_line) (h : MatchResult found_line (λ x. ◌≡◌ {A = Result Line Refusal} (Ok l) (Ok x)) Q) where
+  by_case : (r : Result Line ℕ) → true ≡ is_ok r → MatchResult r (λ x. ◌≡◌ {A = Result Line Refusal} (Ok l) (Ok x)) Q → Ok l ≡ r
+  by_case (Ok x) o m = let same : l ≡ x = cc in ap Ok same
+  by_case (Err column) o m = absurd cc
+
+  pub line_found : Ok l ≡ line_of begun (drop at log)
+  line_found = by_case found_line ok h ∙ e ∙ ap (line_of begun) (rest_is at log)
+
+  -- and goes on, where it is accepted
+  pub advances : (number room : ℕ) {v : Verdict} → v ≡ line_verdict number begun room l → v ≡ Accepted → Advances begun at (drop at log) l
+  advances number room q a =
+      advances_by number begun room at (drop at log) l (subst (Found begun (drop at log)) (sym line_found) (found begun (drop at log))) (sym q ∙ a)
 
 -- ---- a reading has no more than 444 lines
 
@@ -169,27 +186,21 @@ reading_end log i number room at h =
 
 -- where no line stands
 pub reading_wrong : (log : List ℕ) (i : Index) (number room at : ℕ) → at < length log → number ≤ at + 1 → (l : Result Line ℕ) (r : Refusal) (Q : ℕ → Type 0)
-    → l ≡ line_at i.corrections at log → MatchResult l (λ x. ◌≡◌ {A = Result Line Refusal} (Err r) (Ok x)) Q
+    → l ≡ line_of i.corrections (rest at log) → MatchResult l (λ x. ◌≡◌ {A = Result Line Refusal} (Err r) (Ok x)) Q
     → ((column : ℕ) → Q column → r ≡ log_line number column) → Err r ≡ reading log i number room at
-unfolding reading read line_at onto
+unfolding reading read onto
 reading_wrong log i number room at inside counted (Ok x) r Q e q m = absurd cc
 reading_wrong log i number room at inside counted (Err column) r Q e q m =
-    rw (one_less (length log + 1) number (omega arith), ne_eqb (length (drop at log)) 0 (λ z. omega (arith, length-drop at log)), ← e, m column q)
-
--- the line that `?` hands on is the one that was found
-pub line_found : (found : Result Line ℕ) {l : Line} (Q : ℕ → Type 0) → true ≡ is_ok found → MatchResult found (λ x. ◌≡◌ {A = Result Line Refusal} (Ok l) (Ok x)) Q
-    → found ≡ Ok l
-line_found (Ok x) Q e h = cc
-line_found (Err column) Q e h = absurd cc
+    rw (one_less (length log + 1) number (omega arith), ne_eqb (length (drop at log)) 0 (λ z. omega (arith, length-drop at log)), ← rest_is at log, ← e, m column q)
 
 -- where one stands
 module _ (log : List ℕ) (i : Index) (number room at : ℕ) (inside : at < length log) (counted : number ≤ at + 1) {l : Line} {v : Verdict}
-    (el : Ok l ≡ line_at i.corrections at log) (ev : v ≡ line_verdict number i.corrections room l) where
+    (el : Ok l ≡ line_of i.corrections (drop at log)) (ev : v ≡ line_verdict number i.corrections room l) where
   reading_cons : reading log i number room at
       ≡ onto i (before v (entries_of i.corrections at l)
       (read (length log + 1 - (number + 1)) (number + 1) (begun_after i.corrections l) (room_after room l) (at + width_of i.corrections l)
       (drop (width_of i.corrections l) (drop at log))))
-  unfolding reading read line_at
+  unfolding reading read
   reading_cons =
       rw (one_less (length log + 1) number (omega arith), ne_eqb (length (drop at log)) 0 (λ z. omega (arith, length-drop at log)), ← el, ← ev)
 

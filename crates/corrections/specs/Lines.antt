@@ -1,7 +1,7 @@
 -- The lines that a log may have, as forms: for each place of a line the bytes that may stand there. How far some bytes go along with a
 -- form says whether they are such a line, and from which byte on they can't be completed to one.
 -- Assumes nothing.
-use Rattle.std.specs.Prelude.{ℕ, zero, suc, ◌+◌, max, Bool, true, cond, ◌&&◌, List, [], ◌∷◌, ◌++◌, map, eqb, leb, length, get_or, drop, replicate, Result, Ok, Err}
+use Rattle.std.specs.Prelude.{ℕ, suc, ◌+◌, max, Bool, cond, ◌&&◌, List, [], ◌∷◌, ◌++◌, map, eqb, leb, length, replicate, Result, Ok, Err}
 use Rattle.digits.specs.Decimal.{decimal}
 use Rattle.corrections.specs.declared.lines.Line.{Line}
 use Rattle.corrections.specs.declared.lines.Line.TheVariants.{Heading, TakenOut, PutIn}
@@ -42,22 +42,9 @@ reach [] bs = 0
 reach (s ∷ f) [] = 0
 reach (s ∷ f) (b ∷ bs) = cond (allows s b) (suc (reach f bs)) 0
 
--- how far the bytes of a log go along with the form from an offset on
-unfoldable pub reach_at : Form → ℕ → List ℕ → ℕ
-reach_at f i log = reach f (drop i log)
-
 -- a line of the form stands in front
 unfoldable pub whole : Form → List ℕ → Bool
 whole f bs = eqb (reach f bs) (length f)
-
--- a line of the form stands at an offset of a log
-unfoldable pub whole_at : Form → ℕ → List ℕ → Bool
-whole_at f i log = whole f (drop i log)
-
--- the n bytes of a log from an offset on may stand in a record
-unfoldable pub printables : (n at : ℕ) → List ℕ → Bool
-printables zero i log = true
-printables (suc n) i log = allows printable (get_or log i 0) && printables n (i + 1) log
 
 -- how many bytes from the left are as one of the forms has them
 unfoldable pub longest : List Form → List ℕ → ℕ
@@ -72,7 +59,3 @@ line_of begun bs =
     (cond (whole (change 68) bs) (Ok TakenOut)
     (cond (whole (change 65) bs) (Ok PutIn)
     (Err (longest (forms begun) bs + 1)))))
-
--- the same at an offset of a log
-unfoldable pub line_at : (begun at : ℕ) → List ℕ → Result Line ℕ
-line_at begun at log = line_of begun (drop at log)

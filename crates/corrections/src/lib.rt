@@ -17,7 +17,7 @@ ghost use Rattle.corrections.specs.Reading.{
   grown,
 };
 
-use lines::{Line, line_at};
+use lines::{Line, line_of};
 use refusals::{MOST_RECORDS, Refusal, Verdict};
 
 // How many bytes a log has at most, and how many corrections.
@@ -46,7 +46,7 @@ const NO_ENTRY: Entry = Entry {
 };
 
 // What a log says: how many corrections, how many D and A lines, and these in their order; zeros past their count. A log of 60,000 bytes
-// has no more than 444 such lines.
+// has no more than 444 such lines. An array with its count beside it, since memory is fixed: a Vec would ask for an allocator.
 #[derive(Clone, Copy, Debug, PartialEq, Eq)]
 pub struct Index {
     pub corrections: usize,
@@ -85,14 +85,7 @@ impl Index {
     }
 }
 
-// How many A lines have room beside so many frozen records.
-fn room_beside(frozen: usize) -> usize
-    ensures { result ≡ 480 - frozen }
-{
-    MOST_RECORDS.saturating_sub(frozen)
-}
-
-// How many have room after a line.
+// How many A lines have room after a line.
 fn room_after(line: Line, room: usize) -> usize
     ensures { result ≡ room_after room line }
 {
@@ -137,12 +130,13 @@ pub fn index_of(log: &[u8], frozen: usize) -> Result<Index, Refusal>
         count: 0,
         entries: [NO_ENTRY; MOST_CHANGES],
     };
-    let mut room = room_beside(frozen);
+    let mut room = MOST_RECORDS.saturating_sub(frozen);
     let mut number: usize = 1;
     let mut at: usize = 0;
+    // Each line says how wide it is, so that no iterator counts the offsets.
     while at < log.len() {
         let begun = index.corrections;
-        let line = line_at(log, at, begun).map_err(|column| Refusal::log_line(number, column))?;
+        let line = line_of(&log[at..], begun).map_err(|column| Refusal::log_line(number, column))?;
         judge_line(line, number, begun, room)?;
         let next = at + width(line, begun);
         index.take(line, at);

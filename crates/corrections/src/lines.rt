@@ -1,7 +1,8 @@
-// One line of a log: which line stands at an offset, and the first byte from which none can be completed there.
-// Assumes of its callers, all in this crate, that an offset is not far past 60,000 and that no more than 200 corrections have begun.
-ghost use Rattle.std.specs.Prelude.{◌≡◌, map, ◌+◌, ◌%◌, ◌<◌, ◌≤◌, max, length, get_or, take};
-ghost use Rattle.corrections.specs.Lines.{exactly, printable, allows, heading, change, reach_at, whole_at, printables, line_at};
+// One line of a log: which line stands in front of what is left of it, and the first byte from which none can be completed there.
+// Assumes of its callers, all in this crate, that no more than 200 corrections have begun.
+ghost use Rattle.std.specs.Prelude.{◌≡◌, map, ◌+◌, ◌%◌, ◌<◌, ◌≤◌, length, get_or};
+ghost use Rattle.std.specs.List.{list_all};
+ghost use Rattle.corrections.specs.Lines.{exactly, printable, allows, heading, change, reach, whole, line_of};
 
 use crate::CHANGE_WIDTH;
 use slices::byte_at;
@@ -13,13 +14,6 @@ pub enum Line {
     PutIn,
 }
 
-// The greater of two numbers.
-fn greater(a: usize, b: usize) -> usize
-    ensures { result ≡ max a b }
-{
-    if a < b { b } else { a }
-}
-
 // The last digit of a number.
 fn digit(n: usize) -> u8
     ensures { result ≡ n % 10 + 48 }
@@ -27,33 +21,21 @@ fn digit(n: usize) -> u8
     (n % 10) as u8 + 48
 }
 
-// The heading of a correction as text: its bytes, the line feed the last of them, and how many they are.
-#[derive(Clone, Copy)]
-struct HeadingText {
-    bytes: [u8; 6],
-    width: usize,
-}
-
-fn heading_text(n: usize) -> HeadingText
+// The heading of a correction as text, the line feed its last byte, in the bytes that are lent.
+fn heading_text(n: usize, space: &mut [u8; 6]) -> &[u8]
     requires { n < 1000 }
-    ensures { (result.width ≡ length (heading n)) × (map exactly (take result.width result.bytes) ≡ heading n) }
+    ensures { map exactly result.now ≡ heading n }
 {
     if n < 10 {
-        return HeadingText {
-            bytes: [b'C', b'\t', digit(n), b'\n', 0, 0],
-            width: 4,
-        };
+        *space = [b'C', b'\t', digit(n), b'\n', 0, 0];
+        return &space[..4];
     }
     if n < 100 {
-        return HeadingText {
-            bytes: [b'C', b'\t', digit(n / 10), digit(n), b'\n', 0],
-            width: 5,
-        };
+        *space = [b'C', b'\t', digit(n / 10), digit(n), b'\n', 0];
+        return &space[..5];
     }
-    HeadingText {
-        bytes: [b'C', b'\t', digit(n / 100), digit(n / 10), digit(n), b'\n'],
-        width: 6,
-    }
+    *space = [b'C', b'\t', digit(n / 100), digit(n / 10), digit(n), b'\n'];
+    &space[..]
 }
 
 // How many bytes the heading of a correction has.
@@ -61,33 +43,26 @@ pub(crate) fn heading_width(n: usize) -> usize
     requires { n < 1000 }
     ensures { result ≡ length (heading n) }
 {
-    let text = heading_text(n);
-    text.width
+    heading_text(n, &mut [0; 6]).len()
 }
 
-// How far the bytes from an offset on go along with the heading of a correction.
-fn reach_heading(log: &[u8], i: usize, n: usize) -> usize
-    requires { (i < 70000) × (n < 1000) }
-    ensures { result ≡ reach_at (heading n) i log.now }
+// How far bytes go along with the heading of a correction.
+fn reach_heading(bytes: &[u8], n: usize) -> usize
+    requires { n < 1000 }
+    ensures { result ≡ reach (heading n) bytes.now }
 {
-    let text = heading_text(n);
-    let bytes = text.bytes;
-    let width = text.width;
-    let mut k = 0;
-    while k < width {
-        if byte_at(log, i + k) != bytes[k] {
-            return k;
-        }
-        k += 1;
-    }
-    k
+    let mut space = [0; 6];
+    let text = heading_text(n, &mut space);
+    (0..text.len())
+        .find(|&k| byte_at(bytes, k) != text[k])
+        .unwrap_or(text.len())
 }
 
 // Whether a byte may stand in a record.
 fn is_printable(b: u8) -> bool
     ensures { result ≡ allows printable b }
 {
-    (32 <= b) & (b <= 126)
+    (b' '..=b'~').contains(&b)
 }
 
 // Whether a byte may stand at a place, counted from 0, of a D or A line: its letter, a tab, the 132 bytes of a record and the line feed.
@@ -95,100 +70,74 @@ fn change_allows(letter: u8, k: usize, b: u8) -> bool
     requires { k < 135 }
     ensures { result ≡ allows (get_or (change letter) k (exactly 0)) b }
 {
-    if k == 0 {
-        return b == letter;
+    match k {
+        0 => b == letter,
+        1 => b == b'\t',
+        134 => b == b'\n',
+        _ => is_printable(b),
     }
-    if k == 1 {
-        return b == b'\t';
-    }
-    if k < 134 {
-        return is_printable(b);
-    }
-    b == b'\n'
 }
 
 // How far they go along with a D or A line.
-fn reach_change(log: &[u8], i: usize, letter: u8) -> usize
-    requires { (i < 70000) × (0 < letter) }
-    ensures { result ≡ reach_at (change letter) i log.now }
+fn reach_change(bytes: &[u8], letter: u8) -> usize
+    requires { 0 < letter }
+    ensures { result ≡ reach (change letter) bytes.now }
 {
-    let mut k = 0;
-    while k < CHANGE_WIDTH {
-        if !change_allows(letter, k, byte_at(log, i + k)) {
-            return k;
-        }
-        k += 1;
-    }
-    k
+    (0..CHANGE_WIDTH)
+        .find(|&k| !change_allows(letter, k, byte_at(bytes, k)))
+        .unwrap_or(CHANGE_WIDTH)
 }
 
-// Whether the heading of a correction stands at an offset. Most lines are told from one by their letter.
-fn heading_stands(log: &[u8], i: usize, n: usize) -> bool
-    requires { (i < 70000) × (n < 1000) }
-    ensures { result ≡ whole_at (heading n) i log.now }
+// Whether the heading of a correction stands in front. Most lines are told from one by their letter.
+fn heading_stands(bytes: &[u8], n: usize) -> bool
+    requires { n < 1000 }
+    ensures { result ≡ whole (heading n) bytes.now }
 {
-    if byte_at(log, i) != b'C' {
-        return false;
-    }
-    let reached = reach_heading(log, i, n);
-    reached == heading_width(n)
+    byte_at(bytes, 0) == b'C' && bytes.starts_with(heading_text(n, &mut [0; 6]))
 }
 
-// Whether the 132 bytes from an offset on may stand in a record. It looks at them all: the compiler takes many at once where no byte
-// ends the loop.
-fn all_printable(log: &[u8], i: usize) -> bool
-    requires { i + 132 ≤ length log.now }
-    ensures { result ≡ printables 132 i log.now }
+// Whether bytes may stand in a record. It looks at them all, as `all` would not: the compiler takes many at once where no byte ends the
+// loop.
+fn all_printable(bytes: &[u8]) -> bool
+    ensures { result ≡ list_all (allows printable) bytes.now }
 {
     let mut fine = true;
-    let mut k = 0;
-    while k < 132 {
-        fine = fine & is_printable(log[i + k]);
-        k += 1;
+    for &b in bytes {
+        fine &= is_printable(b);
     }
     fine
 }
 
-// Whether a D or A line stands at an offset.
-fn change_stands(log: &[u8], i: usize, letter: u8) -> bool
-    requires { (i < 70000) × (0 < letter) }
-    ensures { result ≡ whole_at (change letter) i log.now }
+// Whether a D or A line stands in front.
+fn change_stands(bytes: &[u8], letter: u8) -> bool
+    ensures { result ≡ whole (change letter) bytes.now }
 {
-    if log.len() < i + CHANGE_WIDTH {
+    let Some([first, tab, record @ .., end]) = bytes.get(..CHANGE_WIDTH) else {
         return false;
-    }
-    if log[i] != letter {
-        return false;
-    }
-    if log[i + 1] != b'\t' {
-        return false;
-    }
-    if !all_printable(log, i + 2) {
-        return false;
-    }
-    log[i + 134] == b'\n'
+    };
+    (*first, *tab, *end) == (letter, b'\t', b'\n') && all_printable(record)
 }
 
-// The line that stands at an offset, where so many corrections have begun; or else the first byte, counted from 1, from which none can
-// be completed.
-pub(crate) fn line_at(log: &[u8], i: usize, begun: usize) -> Result<Line, usize>
-    requires { (i < 70000) × (begun ≤ 200) }
-    ensures { result ≡ line_at begun i log.now }
+// The line that stands in front, where so many corrections have begun; or else the first byte, counted from 1, from which none can be
+// completed.
+pub(crate) fn line_of(bytes: &[u8], begun: usize) -> Result<Line, usize>
+    requires { begun ≤ 200 }
+    ensures { result ≡ line_of begun bytes.now }
 {
-    if heading_stands(log, i, begun + 1) {
+    if heading_stands(bytes, begun + 1) {
         return Ok(Line::Heading);
     }
     if begun == 0 {
-        return Err(reach_heading(log, i, begun + 1) + 1);
+        return Err(reach_heading(bytes, begun + 1) + 1);
     }
-    if change_stands(log, i, b'D') {
+    if change_stands(bytes, b'D') {
         return Ok(Line::TakenOut);
     }
-    if change_stands(log, i, b'A') {
+    if change_stands(bytes, b'A') {
         return Ok(Line::PutIn);
     }
-    let headed = reach_heading(log, i, begun + 1);
-    let taken = reach_change(log, i, b'D');
-    let put = reach_change(log, i, b'A');
-    Err(greater(headed, greater(taken, put)) + 1)
+    let headed = reach_heading(bytes, begun + 1);
+    let taken = reach_change(bytes, b'D');
+    let put = reach_change(bytes, b'A');
+    Err(headed.max(taken.max(put)) + 1)
 }

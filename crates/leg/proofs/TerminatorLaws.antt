@@ -1,8 +1,8 @@
--- Laws of the terminators: the code's tables hold, for each, what the definitions say of it; each stands in its place of the list, and what is
+-- Laws of the terminators: tables of them hold, for each, what the definitions say of it; each stands in its place of the list, and what is
 -- found there is it.
 -- Assumes nothing.
 use mathlib.Core.Path.{◌≡◌, refl, sym, ap, subst, ◌∙◌}
-use mathlib.Core.Logic.{◌↔◌, ⊎_elim}
+use mathlib.Core.Logic.{◌↔◌, ◌⊎◌, inl, inr, ⊎_elim}
 use mathlib.Core.Bool.{Bool, true, false, cond, ◌&&◌, ◌||◌, or-false, false≢true}
 use mathlib.Core.List.Memᴰ
 use mathlib.Core.List.{List, [], ◌∷◌, ◌++◌, map, Memᴰ}
@@ -34,7 +34,7 @@ abbrev joined : List (List ℕ) → List ℕ
 joined [] = []
 joined (x ∷ xs) = x ++ joined xs
 
--- the code's tables: what each needs in eight places, blank past its letters; and a 1 or a 0 each
+-- tables of the 23: what each needs in eight places, blank past its letters; and a 1 or a 0 each
 abbrev eight : List ℕ → List ℕ
 eight xs = xs ++ replicate (8 - length xs) 32
 
@@ -124,30 +124,6 @@ found f n e h = h ∙ ap terminator_at e
 pub whole : (n : ℕ) (xs : List ℕ) → length xs ≡ n → part n 0 xs ≡ xs
 whole n xs h = subst (λ (m : ℕ). part m 0 xs ≡ xs) h (part_all xs)
 
--- two bytes are a name of two letters where each is its letter
-two_letters : (x y a b : ℕ) → equal (x ∷ y ∷ []) (a ∷ b ∷ []) ≡ (eqb x a && eqb y b)
-two_letters x y a b =
-    split (equal (x ∷ y ∷ []) (a ∷ b ∷ []))
-    (λ e.
-    let q = (equal_iff (x ∷ y ∷ []) (a ∷ b ∷ [])).0 e in
-    e ∙ sym (both (eq-eqb x a (ap (λ (l : List ℕ). get_or l 0 0) q)) (eq-eqb y b (ap (λ (l : List ℕ). get_or l 1 0) q))))
-    (λ e. e ∙ sym (split (eqb x a && eqb y b) (λ t. absurd (false≢true (sym e ∙ same t))) (λ t. t)))
-  where
-    same : (eqb x a && eqb y b) ≡ true → equal (x ∷ y ∷ []) (a ∷ b ∷ []) ≡ true
-    same t =
-        let p : x ≡ a = eqb-true x a (and_left (eqb x a) (eqb y b) t) in
-        let q : y ≡ b = eqb-true y b (and_right (eqb x a) (eqb y b) t) in
-        (equal_iff (x ∷ y ∷ []) (a ∷ b ∷ [])).1 cc
-
--- the test that the search makes at one name
-pub name_test : (rec name : List ℕ) → length name ≡ 2 → {x y : ℕ} {r : Bool} → x ≡ get_or rec 47 0 → y ≡ get_or rec 48 0
-    → r ≡ (eqb x (get_or name 0 0) && eqb y (get_or name 1 0)) → equal (part 2 47 rec) name ≡ r
-unfolding part
-name_test rec [] h p q e = absurd (omega arith)
-name_test rec (a ∷ []) h p q e = absurd (omega arith)
-name_test rec (a ∷ (b ∷ [])) h p q e = rw (← p, ← q) (two_letters _ _ a b ∙ sym e)
-name_test rec (a ∷ (b ∷ (c ∷ name))) h p q e = absurd (omega arith)
-
 -- within the order no default is asked for
 pub in_order_lem : (n : ℕ) (d : Terminator) → n < 23 → get_or in_order n d ≡ terminator_at n
 unfolding terminator_at in_order
@@ -157,10 +133,6 @@ in_order_lem n d h = get_or_any in_order n d Vr h
 pub past : (n : ℕ) → 23 ≤ n → terminator_at n ≡ Vr
 unfolding terminator_at in_order
 past n h = get_or-eq_default in_order Vr h
-
--- a number that is none of those before it
-pub one_more : {n k : ℕ} → k ≤ n → (n ≡ k → ⊥) → k + 1 ≤ n
-one_more h d = omega (arith, h, d)
 
 -- ---- what is found in it
 
@@ -228,3 +200,42 @@ recognised_iff f = (to, from)
 
     from : OneOf terminators f → found_at f < 23
     from m = let r = named f m in omega (arith, (found_iff f r.0).1 r.1, number_within r.0)
+
+-- the code names those that end at a fix, and the holdings, one by one
+pub ends : (t : Terminator) → (t ≡ If) ⊎ (t ≡ Tf) ⊎ (t ≡ Cf) ⊎ (t ≡ Df) ⊎ (t ≡ Af) ⊎ (t ≡ Rf) ⊎ (t ≡ Ha) ⊎ (t ≡ Hf) ⊎ (t ≡ Hm) → true ≡ ends_at_fix t
+unfolding ends_at_fix among name_of terminator_number texts codes terminators equal order
+ends t (inl e) = rw e
+ends t (inr (inl e)) = rw e
+ends t (inr (inr (inl e))) = rw e
+ends t (inr (inr (inr (inl e)))) = rw e
+ends t (inr (inr (inr (inr (inl e))))) = rw e
+ends t (inr (inr (inr (inr (inr (inl e)))))) = rw e
+ends t (inr (inr (inr (inr (inr (inr (inl e))))))) = rw e
+ends t (inr (inr (inr (inr (inr (inr (inr (inl e)))))))) = rw e
+ends t (inr (inr (inr (inr (inr (inr (inr (inr e)))))))) = rw e
+
+pub ends_not : (t : Terminator) → (t ≡ If → ⊥) → (t ≡ Tf → ⊥) → (t ≡ Cf → ⊥) → (t ≡ Df → ⊥) → (t ≡ Af → ⊥) → (t ≡ Rf → ⊥) → (t ≡ Ha → ⊥) → (t ≡ Hf → ⊥) → (t ≡ Hm → ⊥) → false ≡ ends_at_fix t
+unfolding ends_at_fix among name_of terminator_number texts codes terminators equal order
+ends_not If n _ _ _ _ _ _ _ _ = absurd (n refl)
+ends_not Tf _ n _ _ _ _ _ _ _ = absurd (n refl)
+ends_not Cf _ _ n _ _ _ _ _ _ = absurd (n refl)
+ends_not Df _ _ _ n _ _ _ _ _ = absurd (n refl)
+ends_not Af _ _ _ _ n _ _ _ _ = absurd (n refl)
+ends_not Rf _ _ _ _ _ n _ _ _ = absurd (n refl)
+ends_not Ha _ _ _ _ _ _ n _ _ = absurd (n refl)
+ends_not Hf _ _ _ _ _ _ _ n _ = absurd (n refl)
+ends_not Hm _ _ _ _ _ _ _ _ n = absurd (n refl)
+ends_not _ _ _ _ _ _ _ _ _ _ = refl
+
+pub holds : (t : Terminator) → (t ≡ Ha) ⊎ (t ≡ Hf) ⊎ (t ≡ Hm) → true ≡ is_holding t
+unfolding is_holding among name_of terminator_number texts codes terminators equal order
+holds t (inl e) = rw e
+holds t (inr (inl e)) = rw e
+holds t (inr (inr e)) = rw e
+
+pub holds_not : (t : Terminator) → (t ≡ Ha → ⊥) → (t ≡ Hf → ⊥) → (t ≡ Hm → ⊥) → false ≡ is_holding t
+unfolding is_holding among name_of terminator_number texts codes terminators equal order
+holds_not Ha n _ _ = absurd (n refl)
+holds_not Hf _ n _ = absurd (n refl)
+holds_not Hm _ _ n = absurd (n refl)
+holds_not _ _ _ _ = refl

@@ -1,6 +1,6 @@
 -- The stages of judging that look at more than one field. Each gives a column, or 0 where it finds nothing.
 -- Assumes nothing.
-use Rattle.std.specs.Prelude.{ℕ, Bool, cond, ◌&&◌, ◌||◌, List, [], ◌∷◌, eqb}
+use Rattle.std.specs.Prelude.{ℕ, Bool, cond, ◌&&◌, ◌||◌, List, [], ◌∷◌, eqb, Option, Some, None}
 use Prim.Native.Char.{Char, code}
 use Rattle.slices.specs.Part.{blank, member}
 use Rattle.columns.specs.Rows.{byte_in}
@@ -10,6 +10,10 @@ use Rattle.columns.specs.declared.field.Field.{Field}
 use Rattle.leg.specs.Terminator.{terminator_of, needed}
 use Rattle.leg.specs.declared.stages.Needable.{Needable}
 use Rattle.leg.specs.declared.terminator.Terminator.{Terminator}
+
+-- the column that a stage has found, if it has found one
+abbrev pub found : ℕ → Option ℕ
+found c = cond (eqb c 0) None (Some c)
 
 -- ---- companions
 

@@ -15,26 +15,23 @@ use refusals::{Refusal, Verdict};
 fn judge_leg(rec: &[u8], place: usize) -> Verdict
     ensures { result ≡ judged_leg place rec.now }
 {
-    let column = stages::companion_column(rec);
-    if column != 0 {
+    if let Some(column) = stages::companion_column(rec) {
         return Err(Refusal::companion_blank(place, column));
     }
-    let column = stages::needed_column(rec);
-    if column != 0 {
+    if let Some(column) = stages::needed_column(rec) {
         return Err(Refusal::needed_blank(place, column));
     }
     Ok(())
 }
 
-// All three stages, of which the first found a column, or 0.
+// All three stages, of which the first found a column, or 0: so `columns` answers, by its contract.
 fn judge_by(column: usize, rec: &[u8], place: usize) -> Verdict
     ensures { result ≡ judged_by column place rec.now }
 {
     if column != 0 {
         return Err(Refusal::field_content(place, column));
     }
-    let kind = columns::kind_of(rec);
-    match kind {
+    match columns::kind_of(rec) {
         Kind::Primary => judge_leg(rec, place),
         Kind::Continuation => Ok(()),
     }

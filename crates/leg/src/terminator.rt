@@ -5,7 +5,7 @@ ghost use Rattle.slices.specs.Part.{member};
 ghost use Rattle.slices.specs.Order.{equal};
 ghost use Rattle.slices.specs.Search.{first_at};
 ghost use Rattle.columns.specs.Words.{columns};
-ghost use Rattle.leg.specs.Terminator.{terminator_number, in_line, name_of, terminator_at, terminator_of, needed, ends_at_fix, is_holding};
+ghost use Rattle.leg.specs.Terminator.{terminator_number, name_of, found_at, terminator_at, terminator_of, needed, ends_at_fix, is_holding};
 
 use columns::field::Field;
 use slices::{byte_at, copy, has};
@@ -65,66 +65,14 @@ const NAMES: [[u8; 2]; 23] = [
     *b"VR", // Heading to a Radial termination (Figure 19)
 ];
 
-// For each terminator, a line each, the letters of the fields that it needs, and blanks up to eight places.
-pub(crate) const NEEDED: [u8; 184] = *b"\
-    FTNHRC  \
-    CA      \
-    NCD     \
-    FNHRCD  \
-    C       \
-    NHC     \
-    F       \
-    FNHRCA  \
-    FNHRCD  \
-    FNHRCD  \
-    FNHRC   \
-    FTCDA   \
-    FTCD    \
-    FTCD    \
-    F       \
-    FTNHRCDA\
-    FTDXO   \
-    F       \
-    CA      \
-    NCD     \
-    C       \
-    C       \
-    NHC     ";
-
-// For each terminator whether it ends at a fix, and whether it is a holding.
-const ENDS: [u8; 23] = *b"10010010000111101100000";
-
-const HOLDINGS: [u8; 23] = *b"00000000000111000000000";
-
-// Whether a name is these two letters.
-fn is_name(name: &[u8], first: u8, second: u8) -> bool
-    ensures { result ≡ (eqb first (get_or name.now 0 0) && eqb second (get_or name.now 1 0)) }
+// The place of a name in the list, or the list's length where it is none of them.
+fn place_of(letters: [u8; 2]) -> usize
+    ensures { result ≡ found_at letters }
 {
-    (first == byte_at(name, 0)) & (second == byte_at(name, 1))
-}
-
-// The place of a record's terminator in a list of names, or the list's length where it is none of them.
-fn place_among<'a>(names: &'a [[u8; 2]], rec: &'a [u8]) -> usize
-    ensures { result ≡ first_at (equal (columns 48 49 rec.now)) names.now }
-{
-    let first = byte_at(rec, Terminator::COLUMN - 1);
-    let second = byte_at(rec, Terminator::COLUMN);
-    let mut i = 0;
-    while i < names.len() {
-        if is_name(&names[i], first, second) {
-            return i;
-        }
-        i += 1;
-    }
-    i
-}
-
-// Whether a letter stands in line n of a table that has eight letters a line. Blanks only fill a line up.
-pub(crate) fn in_line(lines: &[u8], n: usize, letter: u8) -> bool
-    requires { n < 23 }
-    ensures { result ≡ in_line lines.now n letter }
-{
-    (letter != b' ') & has(lines, n * 8, 8, letter)
+    NAMES
+        .iter()
+        .position(|name| letters == *name)
+        .unwrap_or(NAMES.len())
 }
 
 impl Terminator {
@@ -160,73 +108,57 @@ impl Terminator {
         Terminator::COLUMN
     }
 
+    // The 23, in the order of their names.
+    const ALL: [Terminator; 23] = [
+        Terminator::Af,
+        Terminator::Ca,
+        Terminator::Cd,
+        Terminator::Cf,
+        Terminator::Ci,
+        Terminator::Cr,
+        Terminator::Df,
+        Terminator::Fa,
+        Terminator::Fc,
+        Terminator::Fd,
+        Terminator::Fm,
+        Terminator::Ha,
+        Terminator::Hf,
+        Terminator::Hm,
+        Terminator::If,
+        Terminator::Pi,
+        Terminator::Rf,
+        Terminator::Tf,
+        Terminator::Va,
+        Terminator::Vd,
+        Terminator::Vi,
+        Terminator::Vm,
+        Terminator::Vr,
+    ];
+
     // Its place in the order of the 23, from 0 on.
+    #[tactic(auto, unfolding(crate::specs::Terminator::terminator_number))]
     pub fn number(self) -> usize
         ensures { (result ≡ terminator_number self) × (result < 23) }
     {
-        match self {
-            Terminator::Af => 0,
-            Terminator::Ca => 1,
-            Terminator::Cd => 2,
-            Terminator::Cf => 3,
-            Terminator::Ci => 4,
-            Terminator::Cr => 5,
-            Terminator::Df => 6,
-            Terminator::Fa => 7,
-            Terminator::Fc => 8,
-            Terminator::Fd => 9,
-            Terminator::Fm => 10,
-            Terminator::Ha => 11,
-            Terminator::Hf => 12,
-            Terminator::Hm => 13,
-            Terminator::If => 14,
-            Terminator::Pi => 15,
-            Terminator::Rf => 16,
-            Terminator::Tf => 17,
-            Terminator::Va => 18,
-            Terminator::Vd => 19,
-            Terminator::Vi => 20,
-            Terminator::Vm => 21,
-            Terminator::Vr => 22,
-        }
+        self as usize
     }
 
+    #[tactic(auto, unfolding(crate::specs::Terminator::terminator_at, crate::specs::Terminator::in_order))]
     fn at(n: usize) -> Terminator
         ensures { result ≡ terminator_at n }
     {
-        match n {
-            0 => Terminator::Af,
-            1 => Terminator::Ca,
-            2 => Terminator::Cd,
-            3 => Terminator::Cf,
-            4 => Terminator::Ci,
-            5 => Terminator::Cr,
-            6 => Terminator::Df,
-            7 => Terminator::Fa,
-            8 => Terminator::Fc,
-            9 => Terminator::Fd,
-            10 => Terminator::Fm,
-            11 => Terminator::Ha,
-            12 => Terminator::Hf,
-            13 => Terminator::Hm,
-            14 => Terminator::If,
-            15 => Terminator::Pi,
-            16 => Terminator::Rf,
-            17 => Terminator::Tf,
-            18 => Terminator::Va,
-            19 => Terminator::Vd,
-            20 => Terminator::Vi,
-            21 => Terminator::Vm,
-            22 => Terminator::Vr,
-            _ => Terminator::Vr,
-        }
+        Terminator::ALL.get(n).copied().unwrap_or(Terminator::Vr)
     }
 
     // The terminator in columns 48 and 49 of a record; VR where they hold none, which is refused by 3 before anything asks.
     pub fn of(rec: &[u8]) -> Terminator
         ensures { result ≡ terminator_of (columns 48 49 rec.now) }
     {
-        Terminator::at(place_among(&NAMES, rec))
+        let letters = [
+            byte_at(rec, Terminator::COLUMN - 1),
+            byte_at(rec, Terminator::COLUMN),
+        ];
+        Terminator::at(place_of(letters))
     }
 
     // Puts the terminator's two letters into columns 48 and 49 of a record.
@@ -237,27 +169,70 @@ impl Terminator {
         copy(&NAMES[n], 0, out, Terminator::column() - 1, 2);
     }
 
-    // Whether a leg of this kind needs the field of the letter: F fix, T turn, N navaid, X arc radius, H theta, R rho, C course,
-    // D distance, A first altitude, O centre fix.
+    // The letters of the fields that a leg of this kind needs: F fix, T turn, N navaid, X arc radius, H theta, R rho, C course, D distance, A first
+    // altitude, O centre fix.
+    #[tactic(auto, unfolding(crate::specs::Terminator::needed, crate::specs::Terminator::needs, columns::specs::Patterns::codes))]
+    fn letters(self) -> &'static [u8]
+        ensures { result.now ≡ needed self }
+    {
+        match self {
+            Terminator::Af => b"FTNHRC",
+            Terminator::Ca => b"CA",
+            Terminator::Cd => b"NCD",
+            Terminator::Cf => b"FNHRCD",
+            Terminator::Ci => b"C",
+            Terminator::Cr => b"NHC",
+            Terminator::Df => b"F",
+            Terminator::Fa => b"FNHRCA",
+            Terminator::Fc => b"FNHRCD",
+            Terminator::Fd => b"FNHRCD",
+            Terminator::Fm => b"FNHRC",
+            Terminator::Ha => b"FTCDA",
+            Terminator::Hf => b"FTCD",
+            Terminator::Hm => b"FTCD",
+            Terminator::If => b"F",
+            Terminator::Pi => b"FTNHRCDA",
+            Terminator::Rf => b"FTDXO",
+            Terminator::Tf => b"F",
+            Terminator::Va => b"CA",
+            Terminator::Vd => b"NCD",
+            Terminator::Vi => b"C",
+            Terminator::Vm => b"C",
+            Terminator::Vr => b"NHC",
+        }
+    }
+
+    // Whether a leg of this kind needs the field of the letter.
     pub fn needed(self, letter: u8) -> bool
         ensures { result ≡ member letter (needed self) }
     {
-        in_line(&NEEDED, self.number(), letter)
+        self.letters().contains(&letter)
     }
 
     // Whether the leg ends at a fix.
+    #[tactic(auto, using(crate::proofs::TerminatorLaws::ends, crate::proofs::TerminatorLaws::ends_not))]
     pub fn ends_at_fix(self) -> bool
         ensures { result ≡ ends_at_fix self }
     {
-        let n = self.number();
-        ENDS[n] == b'1'
+        matches!(
+            self,
+            Terminator::If
+                | Terminator::Tf
+                | Terminator::Cf
+                | Terminator::Df
+                | Terminator::Af
+                | Terminator::Rf
+                | Terminator::Ha
+                | Terminator::Hf
+                | Terminator::Hm
+        )
     }
 
     // Whether the leg is a holding.
+    #[tactic(auto, using(crate::proofs::TerminatorLaws::holds, crate::proofs::TerminatorLaws::holds_not))]
     pub fn is_holding(self) -> bool
         ensures { result ≡ is_holding self }
     {
-        let n = self.number();
-        HOLDINGS[n] == b'1'
+        matches!(self, Terminator::Ha | Terminator::Hf | Terminator::Hm)
     }
 }

@@ -1,19 +1,31 @@
-// Reads `frozen.txt`, `log.txt` and `want.txt`, and prints the new file alone, or the refusal. Of each file at most one byte past its limit is
-// read, so that one that is too long is seen to be. A write that fails ends the program with an error. Assumes nothing.
+// Reads `frozen.txt`, `log.txt` and `want.txt`, and prints the new file alone, or the refusal. A write that fails ends the program with an error.
+// Assumes nothing.
 #![tactic(auto)]
 
+ghost use Rattle.std.specs.Prelude.{refl};
+ghost use Rattle.answers.specs.Answers.{newfile_answer};
+ghost use Rattle.answers.proofs.Lengths.{newfile_fits};
+
+use answers::{Answer, LONGEST_FILE};
+use running::{Program, print_answer};
 use std::io;
-use std::io::Write;
+
+struct NewFile;
+
+impl Program<LONGEST_FILE> for NewFile {
+    ghost text = { newfile_answer };
+
+    const WANTS: bool = true;
+
+    fn answer(frozen: &[u8], log: &[u8], want: &[u8], out: &mut [u8; LONGEST_FILE]) -> Answer {
+        answers::newfile_answer(frozen, log, want, out)
+    }
+
+    ghost fits = { newfile_fits };
+
+    ghost small = { refl };
+}
 
 fn main(rt: HostRuntime) -> io::Result<()> {
-    let mut frozen = [0u8; answers::FROZEN_READ];
-    let f = folder::read(&rt, b"frozen.txt", &mut frozen);
-    let mut log = [0u8; answers::LOG_READ];
-    let l = folder::read(&rt, b"log.txt", &mut log);
-    let mut want = [0u8; answers::WANT_READ];
-    let w = folder::read(&rt, b"want.txt", &mut want);
-    let mut out = [0u8; answers::LONGEST_FILE];
-    let answer = answers::newfile_answer(&frozen[..f], &log[..l], &want[..w], &mut out);
-    let n = answer.length;
-    io::writer(&rt).write_all(&out[..n])
+    print_answer::<NewFile, _, _, LONGEST_FILE>(&rt, &mut io::writer(&rt))
 }

@@ -1,19 +1,31 @@
-// Reads `frozen.txt`, `log.txt` and `want.txt`, and prints the corrections taken, or the refusal. Of each file at most one byte past its limit
-// is read, so that one that is too long is seen to be. A write that fails ends the program with an error. Assumes nothing.
+// Reads `frozen.txt`, `log.txt` and `want.txt`, and prints the corrections taken, or the refusal. A write that fails ends the program with an
+// error. Assumes nothing.
 #![tactic(auto)]
 
+ghost use Rattle.std.specs.Prelude.{refl};
+ghost use Rattle.answers.specs.Answers.{pick_answer};
+ghost use Rattle.answers.proofs.Lengths.{pick_fits};
+
+use answers::{Answer, LONGEST_PICK};
+use running::{Program, print_answer};
 use std::io;
-use std::io::Write;
+
+struct Pick;
+
+impl Program<LONGEST_PICK> for Pick {
+    ghost text = { pick_answer };
+
+    const WANTS: bool = true;
+
+    fn answer(frozen: &[u8], log: &[u8], want: &[u8], out: &mut [u8; LONGEST_PICK]) -> Answer {
+        answers::pick_answer(frozen, log, want, out)
+    }
+
+    ghost fits = { pick_fits };
+
+    ghost small = { refl };
+}
 
 fn main(rt: HostRuntime) -> io::Result<()> {
-    let mut frozen = [0u8; answers::FROZEN_READ];
-    let f = folder::read(&rt, b"frozen.txt", &mut frozen);
-    let mut log = [0u8; answers::LOG_READ];
-    let l = folder::read(&rt, b"log.txt", &mut log);
-    let mut want = [0u8; answers::WANT_READ];
-    let w = folder::read(&rt, b"want.txt", &mut want);
-    let mut out = [0u8; answers::LONGEST_PICK];
-    let answer = answers::pick_answer(&frozen[..f], &log[..l], &want[..w], &mut out);
-    let n = answer.length;
-    io::writer(&rt).write_all(&out[..n])
+    print_answer::<Pick, _, _, LONGEST_PICK>(&rt, &mut io::writer(&rt))
 }

@@ -2,7 +2,8 @@
 // a case's number, and what its place and column count, are said here alone. Assumes nothing of the caller.
 #![tactic(auto)]
 
-ghost use Rattle.std.specs.Prelude.{◌≡◌};
+ghost use Rattle.std.specs.Prelude.{◌≡◌, ◌∷◌, ◌++◌, Some};
+ghost use Rattle.std.specs.Fmt.{decimal};
 ghost use Rattle.refusals.specs.Table.{
   refusal,
   cut_short,
@@ -26,6 +27,8 @@ ghost use Rattle.refusals.specs.Table.{
   buffer_too_short,
   stated,
 };
+
+use std::fmt;
 
 // How many records a file has at most, and the place of the first that is too many.
 pub const MOST_RECORDS: usize = 480;
@@ -213,6 +216,20 @@ impl Refusal {
         ensures { result ≡ buffer_too_short }
     {
         Refusal::of(Refusal::BUFFER_TOO_SHORT, 0, 0)
+    }
+}
+
+// The number, the place and the column, parted by tabs.
+impl fmt::Display for Refusal {
+    ghost output = { λ r. Some (decimal r.number ++ 9 ∷ decimal r.place ++ 9 ∷ decimal r.column) };
+
+    fn fmt<W: fmt::Write>(&self, f: &mut fmt::Formatter<W>) -> fmt::Result {
+        let Refusal {
+            number,
+            place,
+            column,
+        } = *self;
+        write!(f, "{number}\t{place}\t{column}")
     }
 }
 

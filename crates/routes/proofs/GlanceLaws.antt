@@ -7,28 +7,31 @@ use mathlib.Core.Bool.{true, false, false≢true}
 use mathlib.Core.List.{List, [], ◌∷◌, ◌++◌, map}
 use Prim.Native.Nat.{ℕ, ◌+◌, ◌≤◌, ◌<◌, min}
 use native.Mathlib.Omega.{arith}
-use lib.ListN.{length, get_or, take, drop}
+use native.Mathlib.Numerals.{add-one}
+use lib.ListN.{length, get_or, take, drop, drop_of_length-le}
+use lib.Seq.{drop-cons}
 use borrow.Author.Tests.{eqb-true}
 use Rattle.slices.specs.Part.{part}
 use Rattle.slices.specs.Order.{order}
-use Rattle.std.specs.declared.cmp.Ordering.TheVariants.{Less}
+use Rattle.std.specs.declared.cmp.Ordering.{Ordering}
+use Rattle.std.specs.declared.cmp.Ordering.TheVariants.{Less, Equal, Greater}
+use Rattle.std.specs.Ordering.{is_lt}
 use Rattle.slices.proofs.PartLaws.{get_or-part}
 use Rattle.slices.proofs.OrderLaws.{order_less, equal_iff}
 use Rattle.columns.specs.ByteSets.{fits}
 use Rattle.columns.specs.Rows.{byte_in}
 use Rattle.columns.specs.Kinds.{kind_of}
 use Rattle.columns.specs.declared.Kind.TheVariants.{Primary}
-use Rattle.leg.specs.declared.terminator.Terminator.{Terminator}
-use Rattle.routes.specs.Pairs.{terminator_in, kind_number, may_begin, may_end, first_leg, last_leg}
+use Rattle.routes.specs.Pairs.{kind_number, last_leg}
 use Rattle.routes.specs.Places.{key_of}
 use Rattle.routes.specs.Sources.{record_at, sources_in}
 use Rattle.routes.specs.Stages.{Seen, seen, nothing, awaits, ending_stage}
 use Rattle.routes.specs.Walk.{followed, ends_route, judged_behind, primary_after, last}
 use Rattle.routes.specs.Known.{knows, judged_knowing, walk_knowing, walked_knowing}
-use Rattle.routes.specs.Glance.{lone, Begins, Follows, Standing, StandingIn}
+use Rattle.routes.specs.Glance.{lone, Begins, Follows, Standing}
 use Rattle.routes.specs.declared.Sources.{Sources}
 use Rattle.routes.proofs.InTurnLaws.{alone, accepts_iff, four_accept}
-use Rattle.routes.proofs.SourceLaws.{none_of, first_of, used_to}
+use Rattle.routes.proofs.SourceLaws.{used_to}
 use Rattle.routes.proofs.Steps.{continued, ordered, flown, begins_passes, follows_passes, ending_iff, finished_iff}
 
 -- ---- a primary without continuations
@@ -47,6 +50,11 @@ pub later_than_none : (rec : List ℕ) {b : ℕ} → b ≡ get_or rec 0 0 → (b
 unfolding part
 later_than_none rec {b} e h = let z : 0 < get_or rec 0 0 = omega (arith, e, h) in order_less 0 (get_or rec 0 0) (part 24 1 []) (part 24 1 rec) z
 
+pub rises_lt : (o : Ordering) → is_lt o ≡ true → o ≡ Less
+rises_lt Less e = refl
+rises_lt Equal e = absurd (false≢true e)
+rises_lt Greater e = absurd (false≢true e)
+
 -- the records of one key are of one kind
 pub kind_by_key : (before rec : List ℕ) → key_of before ≡ key_of rec → kind_number before ≡ kind_number rec
 unfolding kind_number
@@ -54,16 +62,6 @@ kind_by_key before rec e =
     let at : (i : ℕ) → i < 25 → get_or before (0 + i) 0 ≡ get_or rec (0 + i) 0 =
     λ i h. sym (get_or-part 25 0 before i h) ∙ ap (λ (k : List ℕ). get_or k i 0) e ∙ get_or-part 25 0 rec i h in
     rw (at 12 (omega arith), at 19 (omega arith))
-
--- the first and the last leg of a route, of which the kind and the leg are at hand
-module _ (rec : List ℕ) {kind : ℕ} {leg : Terminator} (k : kind ≡ kind_number rec) (t : leg ≡ terminator_in rec) where
-  pub may_be_first : may_begin kind leg ≡ true → first_leg rec ≡ true
-  unfolding first_leg
-  may_be_first e = rw (← k, ← t) e
-
-  pub may_be_last : may_end kind leg ≡ true → last_leg rec ≡ true
-  unfolding last_leg
-  may_be_last e = rw (← k, ← t) e
 
 -- the route goes on behind a leg with the next one, so that is not the last
 module _ (before rec : List ℕ) (a : lone before ≡ true) (f : Follows before rec) (rs : List (List ℕ)) where
@@ -73,15 +71,14 @@ module _ (before rec : List ℕ) (a : lone before ≡ true) (f : Follows before 
 
 -- ---- records that stand
 
-module _ (known frozen log before sources : List ℕ) (i to : ℕ) where
-  pub standing_end : min to (length sources) ≤ i → last_leg before ≡ true → StandingIn known frozen log before sources i to
-  unfolding StandingIn
-  standing_end h l = rw (none_of sources i to h) (Standing.ends l)
+-- those of some sources, of which the first i are passed
+module _ (known frozen log sources : List ℕ) (i : ℕ) (before : List ℕ) where
+  pub standing_end : length sources ≤ i → last_leg before ≡ true → Standing known frozen log before (drop i sources)
+  standing_end h l = rw (drop_of_length-le sources h) (Standing.ends l)
 
-  pub standing_next : i < min to (length sources) → {rec : List ℕ} → rec ≡ record_at frozen log (get_or sources i 0) → knows known (get_or sources i 0) ≡ true
-      → Follows before rec → StandingIn known frozen log rec sources (i + 1) to → StandingIn known frozen log before sources i to
-  unfolding StandingIn
-  standing_next h e k f t = rw (first_of sources i to h) (Standing.goes k (rw e at f) (rw e at t))
+  pub standing_next : i < length sources → {rec : List ℕ} → rec ≡ record_at frozen log (get_or sources i 0) → knows known (get_or sources i 0) ≡ true
+      → {next : List ℕ} → (next ≡ rec) × Follows before rec → Standing known frozen log next (drop (i + 1) sources) → Standing known frozen log before (drop i sources)
+  standing_next h e k (q, f) t = rw (drop-cons sources i 0 h) (Standing.goes k (rw e at f) (rw (add-one, q, e) at t))
 
 module _ (known frozen log : List ℕ) where
   abbrev behind : List ℕ → List (List ℕ)
@@ -132,12 +129,10 @@ module _ (known frozen log : List ℕ) where
         alone _ ∙ (finished_iff (behind (x ∷ xs))).1 r.finish,
       )
 
-  -- those of the sources from one on up to another
-  pub stands : (sources : List ℕ) (from to : ℕ) {rec : List ℕ} → from < min to (length sources) → knows known (get_or sources from 0) ≡ true
-      → rec ≡ record_at frozen log (get_or sources from 0) → Begins rec → StandingIn known frozen log rec sources (from + 1) to
-      → walked_knowing known frozen log (drop from (take to sources)) ≡ Accepted
-  unfolding StandingIn
-  stands sources from to h k e b t = rw (first_of sources from to h) (accepted (get_or sources from 0) (drop (from + 1) (take to sources)) k (rw e at b) (rw e at t))
+  -- those of some sources: a first, and the others behind it
+  pub stands : {xs ys rec : List ℕ} {x : ℕ} → xs ≡ x ∷ ys → knows known x ≡ true → rec ≡ record_at frozen log x → Begins rec
+      → Standing known frozen log rec ys → walked_knowing known frozen log xs ≡ Accepted
+  stands {ys = ys} {x = x} p k e b t = rw p (accepted x ys k (rw e at b) (rw e at t))
 
   -- .. that count, as many as lie within
   pub glanced : (s : Sources) → length s.at ≡ 480 → (from to : ℕ) {end : ℕ} → end ≡ min to (min s.count 480)

@@ -1,21 +1,20 @@
 -- Laws of a table of known records: what it says of a source, what stays so as it grows, and that the walk which asks it is the walk that
 -- judges every record by itself, where what the table knows is so.
 -- Assumes nothing.
-use Rattle.std.specs.Prelude.{Ok, Err}
+use Rattle.std.specs.Prelude.{Ok, Err, is_ok}
 use Rattle.refusals.specs.Table.{Verdict, Accepted, Refused}
 use mathlib.Core.Path.{◌≡◌, refl, sym, ap, ap₂, subst, ◌∙◌}
-use mathlib.Core.Bool.{Bool, true, false}
+use mathlib.Core.Bool.{Bool, true, false, false≢true}
 use mathlib.Core.List.{List, [], ◌∷◌, ◌++◌, map}
 use Prim.Native.Nat.{ℕ, ◌+◌, ◌-◌, ◌/◌, ◌≤◌, ◌<◌}
 use native.Mathlib.Omega.{arith}
 use native.Mathlib.Decide.{dec_lt}
 use borrow.Author.Tests.{lt-ltb, le-ltb, eq-eqb, ne_eqb, eqb-true, eqb-false}
 use lib.Dec.{eqb}
-use lib.ListN.{length, get_or, set, replicate, get_or-eq_default}
+use lib.ListN.{length, get_or, set, replicate}
 use lib.Seq.{get_or-set_same, get_or-set_other, set_out}
 use Rattle.slices.proofs.Cases.{split}
 use Rattle.slices.proofs.PartLaws.{zero_at}
-use Rattle.refusals.specs.declared.Refusal.{Refusal}
 use Rattle.leg.specs.Judge.{judged}
 use Rattle.leg.specs.Legal.{Legal}
 use Rattle.leg.proofs.Legality.{accepted_iff}
@@ -38,12 +37,6 @@ unfolding slot
 slot_of_log source h = rw (le-ltb source first_of_log h)
 
 -- ---- what a table says
-
-pub knows_none : (known : List ℕ) (source : ℕ) {i : ℕ} → i ≡ slot source → length known ≤ i → false ≡ knows known source
-unfolding knows
-knows_none known source e h =
-    let z : get_or known (slot source) 0 ≡ 0 = ap (λ (k : ℕ). get_or known k 0) (sym e) ∙ get_or-eq_default known 0 h in
-    sym (ne_eqb (get_or known (slot source) 0) (source + 1) (λ q. omega (arith, z, q)))
 
 pub knows_held : (known : List ℕ) (source : ℕ) {i : ℕ} → i ≡ slot source → eqb (get_or known i 0) (source + 1) ≡ knows known source
 unfolding knows
@@ -69,12 +62,20 @@ module _ (f l known : List ℕ) (source : ℕ) where
         by (Ok _) q = sym (set_out known i (source + 1) p) ∙ learned_by Accepted q
         by (Err r) q = learned_by (Refused r) q
 
-    module _ {rec : List ℕ} (a : rec ≡ record_at f l source) {v : Verdict} (b : v ≡ judged 1 rec) where
-      pub learns : v ≡ Accepted → set known i (source + 1) ≡ learned f l source known
-      learns q = learned_by Accepted (ap (judged 1) (sym a) ∙ sym b ∙ q)
+    module _ {rec : List ℕ} (a : rec ≡ record_at f l source) (v : Verdict) (b : v ≡ judged 1 rec) where
+      pub learns : {ok : Bool} → ok ≡ is_ok v → ok ≡ true → set known i (source + 1) ≡ learned f l source known
+      learns p q = by v b (sym p ∙ q)
+        where
+          by : (w : Verdict) → w ≡ judged 1 rec → is_ok w ≡ true → set known i (source + 1) ≡ learned f l source known
+          by (Ok _) h z = learned_by Accepted (ap (judged 1) (sym a) ∙ sym h)
+          by (Err r) h z = absurd (false≢true z)
 
-      pub learns_not : {r : Refusal} → v ≡ Refused r → known ≡ learned f l source known
-      learns_not {r} q = learned_by (Refused r) (ap (judged 1) (sym a) ∙ sym b ∙ q)
+      pub learns_not : {ok : Bool} → ok ≡ is_ok v → ok ≡ false → known ≡ learned f l source known
+      learns_not p q = by v b (sym p ∙ q)
+        where
+          by : (w : Verdict) → w ≡ judged 1 rec → is_ok w ≡ false → known ≡ learned f l source known
+          by (Ok _) h z = absurd (false≢true (sym z))
+          by (Err r) h z = learned_by (Refused r) (ap (judged 1) (sym a) ∙ sym h)
 
 module _ (f l : List ℕ) where
   pub known_nothing : (n : ℕ) → Known f l (replicate n 0)

@@ -10,6 +10,11 @@ use lib.Dec.{eqb}
 use lib.ListN.{length, get_or, take, drop, set, replicate, length-take, length-drop, length-map, drop_of_length-le, get_or-eq_default}
 use lib.Seq.{set_at, append_snoc, take-nil, drop-nil, take_at, take-take, get_or-drop, get_or-take, drop-drop, drop-cons, take_all}
 use borrow.Author.Tests.{le-leb, lt-leb, lt-ltb, le-ltb, eq-eqb, ne_eqb, eqb-true}
+use denote.Ref.{Bor}
+use Rattle.std.specs.Prelude.{Option, None, Some}
+use Rattle.std.specs.Option.{unwrap_or}
+use Rattle.std.specs.Slice.{IsGetRangeResult}
+use mathlib.Core.Bool.{false≢true}
 use Rattle.slices.proofs.Cases.{split}
 use Rattle.routes.specs.Sources.{record_within, first_of_log, record_at, in_use, sources_in, records_in, leading, records, starts, pieces, behind_records, sources_for, sources_to, sources_of}
 use Rattle.routes.specs.Walk.{last}
@@ -39,15 +44,24 @@ line_within f i e =
 -- ---- where a record lies
 
 module _ (s : List ℕ) (at : ℕ) where
-  pub within_not : length s < at + 132 → [] ≡ record_within s at
+  within_not : length s < at + 132 → [] ≡ record_within s at
   unfolding record_within
   within_not h = simp (lt-leb (at + 132) (length s))
 
-  pub within_cut : at + 132 ≤ length s → take (at + 132 - at) (drop at s) ≡ record_within s at
+  within_cut : at + 132 ≤ length s → take (at + 132 - at) (drop at s) ≡ record_within s at
   unfolding record_within
   within_cut h =
       let e : at + 132 - at ≡ 132 = omega arith in
       simp (le-leb (at + 132) (length s), e)
+
+  -- the part that std gives, or nothing
+  pub within_or_none : (r : Option (Bor (List ℕ))) (none : Bor (List ℕ)) → none.now ≡ [] → IsGetRangeResult s at (at + 132) r → (unwrap_or r none).now ≡ record_within s at
+  within_or_none None none e g = e ∙ within_not (by (dec_lt (length s) (at + 132)))
+    where
+      by : Dec (length s < at + 132) → length s < at + 132
+      by (yes h) = h
+      by (no h) = absurd (false≢true (g.1 (omega arith, omega arith)))
+  within_or_none (Some r) none e g = g.0.2 ∙ within_cut g.0.1
 
 module _ (frozen log : List ℕ) (source : ℕ) where
   pub in_frozen_lem : source < first_of_log → record_within frozen source ≡ record_at frozen log source
@@ -148,15 +162,13 @@ module _ (s : Sources) (long : length s.at ≡ 480) (to i : ℕ) where
   unfolding in_use
   range_next h = rw (first_of (take s.count s.at) i to (simp length-take (omega arith)), get_or-take s.count s.at i 0 (omega arith))
 
--- two ranges one behind the other are one
-pub range_join : (i to ahead : ℕ) (xs : List ℕ) → i ≤ to → to ≤ ahead → drop i (take to xs) ++ drop to (take ahead xs) ≡ drop i (take ahead xs)
-range_join i to ahead [] h k = rw (take-nil to, take-nil ahead, drop-nil i, drop-nil to)
-range_join zero zero ahead (x ∷ xs) h k = refl
-range_join zero (suc to) zero (x ∷ xs) h k = absurd (omega arith)
-range_join zero (suc to) (suc ahead) (x ∷ xs) h k = ap (λ (l : List ℕ). x ∷ l) (range_join zero to ahead xs (omega arith) (omega arith))
-range_join (suc i) zero ahead (x ∷ xs) h k = absurd (omega arith)
-range_join (suc i) (suc to) zero (x ∷ xs) h k = absurd (omega arith)
-range_join (suc i) (suc to) (suc ahead) (x ∷ xs) h k = range_join i to ahead xs (omega arith) (omega arith)
+-- what is left of the first n, and the others behind them, are what is left of all
+pub rest_join : (i n : ℕ) (xs : List ℕ) → i ≤ n → drop i (take n xs) ++ drop n xs ≡ drop i xs
+rest_join i n [] h = rw (take-nil n, drop-nil i, drop-nil n)
+rest_join zero zero (x ∷ xs) h = refl
+rest_join zero (suc n) (x ∷ xs) h = ap (λ (l : List ℕ). x ∷ l) (rest_join zero n xs (omega arith))
+rest_join (suc i) zero (x ∷ xs) h = absurd (omega arith)
+rest_join (suc i) (suc n) (x ∷ xs) h = rest_join i n xs (omega arith)
 
 -- the sources that count, up to some place
 take_least : (n : ℕ) (xs : List ℕ) (m : ℕ) → m ≡ min n (length xs) → take m xs ≡ take n xs
@@ -283,10 +295,15 @@ module _ (f : List ℕ) {n : ℕ} (e : n ≡ length f / 133) {count : ℕ} (c : 
   fewer = omega (arith, leading_bytes 480 f)
 
   module _ (short : length f ≤ 63840) {s : Sources} (p : s ≡ sources_to n) where
-    pub pieces_judged : map (record_at f f) (sources_in s 0 count) ≡ records f
-    pieces_judged = rw (p, in_use_lem n, take_starts 0 count n fewer, c) (starts_records f f)
+    pieces_at : take n s.at ≡ starts 0 n
+    pieces_at = rw (p, by_count n) (take_at (starts 0 n) (replicate (480 - n) 0) n (length_starts 0 n))
 
-    pub pieces_behind : records_in f f s count n ≡ behind_records f
-    unfolding records_in behind_records pieces
-    pieces_behind =
-        rw (p, in_use_lem n, take_all n (starts 0 n) (omega (arith, length_starts 0 n)), map-drop (record_at f f) count (starts 0 n), beside f f 0 n (omega arith), e, c)
+    pub pieces_long : count ≤ length (take n s.at)
+    pieces_long = rw (pieces_at, length_starts 0 n) fewer
+
+    pub pieces_judged : map (record_at f f) (take count (take n s.at)) ≡ records f
+    pieces_judged = rw (pieces_at, take_starts 0 count n fewer, c) (starts_records f f)
+
+    pub pieces_behind : map (record_at f f) (drop count (take n s.at)) ≡ behind_records f
+    unfolding behind_records pieces
+    pieces_behind = rw (pieces_at, map-drop (record_at f f) count (starts 0 n), beside f f 0 n (omega arith), e, c)

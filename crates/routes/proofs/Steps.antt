@@ -9,7 +9,8 @@ use Prim.Native.Nat.{ℕ, ◌+◌, ◌≤◌}
 use native.Mathlib.Omega.{arith}
 use lib.Dec.{eqb}
 use lib.ListN.{length}
-use borrow.Author.Tests.{eqb-true, eqb-false, eq-eqb}
+use borrow.Author.Tests.{eqb-true, eqb-false, eq-eqb, ne_eqb}
+use Rattle.std.specs.Prelude.{None, Some}
 use Rattle.slices.specs.Order.{order, equal}
 use Rattle.std.specs.declared.cmp.Ordering.{Ordering}
 use Rattle.std.specs.declared.cmp.Ordering.TheVariants.{Less, Equal, Greater}
@@ -26,9 +27,10 @@ use Rattle.refusals.specs.Table.{continuation_head, route_not_later, sequence_no
 use Rattle.leg.specs.Judge.{stage, judged}
 use Rattle.leg.specs.Legal.{Legal}
 use Rattle.leg.proofs.Legality.{accepted_iff, stage_iff}
+use Rattle.refusals.specs.declared.Refusal.{Refusal}
 use Rattle.routes.specs.InTurn.{in_turn}
 use Rattle.routes.specs.Pairs.{terminator_in, first_leg, last_leg, pair}
-use Rattle.routes.specs.Stages.{Seen, nothing, number_after, first_difference, awaits, continuation_column, continuation_stage, by_order, sequence_stage, order_stage, leg_stands, leg_stage, ending_stage}
+use Rattle.routes.specs.Stages.{Seen, nothing, number_after, first_difference, found, awaits, continuation_column, continuation_stage, by_order, sequence_stage, order_stage, leg_stands, leg_stage, ending_stage}
 use Rattle.routes.specs.Walk.{ends_route, stages_after, judged_next, seen_with, last, walk_from, finished, walked}
 use Rattle.routes.specs.Places.{key_of, sequence_of, Before}
 use Rattle.routes.proofs.InTurnLaws.{alone, accepts_iff, five_accept}
@@ -46,6 +48,20 @@ difference_iff c (x ∷ xs) (y ∷ ys) l h =
     (λ e. let q : x ≡ y = eqb-true x y e in let i = difference_iff (c + 1) xs ys (omega arith) (omega arith) in
     (λ d. let t : xs ≡ ys = i.0 (rw e at d) in cc, λ d. let t : xs ≡ ys = cc in rw e (i.1 t)))
     (λ e. (λ d. let z : c ≡ 0 = rw e at d in absurd (omega arith), λ d. let q : x ≡ y = cc in absurd (eqb-false x y e q)))
+
+-- a column that was found refuses, and where none was the next stage is asked
+pub found_one : (k : ℕ) → Some (k + 1) ≡ found (k + 1)
+unfolding found
+found_one k = rw (ne_eqb (k + 1) 0 (λ e. omega arith))
+
+pub found_refuses : (c : ℕ) (f : ℕ → Refusal) (next : Verdict) {x : ℕ} → found c ≡ Some x → Refused (f x) ≡ stage c f next
+unfolding found stage
+found_refuses c f next {x} e =
+    split (eqb c 0) (λ t. let z : None ≡ Some x = rw t at e in absurd cc) (λ t. let z : Some c ≡ Some x = rw t at e in let q : x ≡ c = cc in rw (t, q))
+
+pub found_passes : (c : ℕ) (f : ℕ → Refusal) (next : Verdict) → found c ≡ None → next ≡ stage c f next
+unfolding found stage
+found_passes c f next e = split (eqb c 0) (λ t. rw t) (λ t. let z : Some c ≡ None = rw t at e in absurd cc)
 
 continuation_iff : (place : ℕ) (s : Seen) (r : List ℕ) → (continuation_stage 38 39 Continuation s place r ≡ Accepted)
     ↔ ((byte_in 39 r ≡ number_after (byte_in 39 s.before)) × (columns 1 38 s.primary ≡ columns 1 38 r))

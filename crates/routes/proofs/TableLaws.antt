@@ -312,10 +312,13 @@ module _ (t : List ℕ) (s b i : ℕ) {subsection type first : ℕ} (h : i < 9) 
   pub other_subsection : (first ≡ subsection → ⊥) → of_line t s b (get_or kind_lines i 0) ≡ false
   other_subsection n = line_test refl ∙ rw (ne_eqb first subsection n)
 
-  module _ (same : first ≡ subsection) {held : Bool} (e : held ≡ member type (part 18 (i * 19 + 1) t)) {v : Bool} (w : (not (eqb type 32) && held) ≡ v) where
-    -- .. of its subsection: the type decides
-    pub by_type : of_line t s b (get_or kind_lines i 0) ≡ v
-    by_type = line_test e ∙ rw (eq-eqb first subsection same) w
+  -- .. of its subsection: the type decides
+  module _ (same : first ≡ subsection) where
+    pub no_type : type ≡ 32 → of_line t s b (get_or kind_lines i 0) ≡ false
+    no_type n = line_test refl ∙ rw (eq-eqb first subsection same, eq-eqb type 32 n)
+
+    pub by_type : (type ≡ 32 → ⊥) → {held v : Bool} → held ≡ member type (part 18 (i * 19 + 1) t) → held ≡ v → of_line t s b (get_or kind_lines i 0) ≡ v
+    by_type n e w = line_test e ∙ rw (eq-eqb first subsection same, ne_eqb type 32 n) w
 
 pub nine_lines : length kind_lines ≡ 9
 unfolding kind_lines

@@ -4,9 +4,11 @@ use Rattle.refusals.specs.Table.{Verdict, Accepted, Refused}
 use mathlib.Core.Path.{◌≡◌, refl, sym, ap, ◌∙◌}
 use mathlib.Core.Bool.{Bool, true, false, ◌&&◌, ◌||◌}
 use mathlib.Core.List.{List, [], ◌∷◌, ◌++◌, map, map-append}
-use Prim.Native.Nat.{ℕ, ◌+◌, ◌-◌, ◌≤◌, ◌<◌, min}
+use Prim.Native.Nat.{ℕ, ◌+◌, ◌-◌, ◌≤◌, ◌<◌}
 use native.Mathlib.Omega.{arith}
-use lib.ListN.{length, get_or, take, drop}
+use native.Mathlib.Numerals.{add-one}
+use lib.ListN.{length, get_or, take, drop, length-take, length-drop, drop_of_length-le}
+use lib.Seq.{drop-cons, take_all}
 use borrow.Author.Tests.{eq-eqb, ne_eqb}
 use Rattle.slices.specs.Part.{part}
 use Rattle.slices.specs.Order.{equal}
@@ -16,13 +18,12 @@ use Rattle.columns.specs.declared.Kind.TheVariants.{Primary, Continuation}
 use Rattle.slices.proofs.PartLaws.{part_next, part_done, part_whole}
 use Rattle.refusals.specs.declared.Refusal.{Refusal}
 use Rattle.routes.specs.InTurn.{in_turn}
-use Rattle.routes.specs.Sources.{record_at, in_use, sources_in, records_in}
+use Rattle.routes.specs.Sources.{record_at}
 use Rattle.routes.specs.Stages.{seen, nothing, columns_to, first_difference}
 use Rattle.routes.specs.Walk.{is_primary, followed, ends_route, primary_after}
 use Rattle.routes.specs.Known.{knows, judged_knowing, walk_knowing}
-use Rattle.routes.specs.declared.Sources.{Sources}
 use Rattle.routes.proofs.InTurnLaws.{goes_on, stops}
-use Rattle.routes.proofs.SourceLaws.{none_of, first_of, range_next, range_end, range_join, used_to}
+use Rattle.routes.proofs.SourceLaws.{first_of, rest_join}
 
 -- ---- the first difference of two records, of which k columns are the same
 
@@ -54,80 +55,76 @@ module _ (a b : List ℕ) (n k : ℕ) (h : k < n) {x y : ℕ} (hx : x ≡ get_or
   unfolding differing first_difference
   differing_next e = differing_cons ∙ rw (eq-eqb x y e)
 
--- ---- what comes behind a record, of which the sources before i are looked past
+-- ---- what comes behind a record, of which the first i are looked past
 
-module _ (frozen log sources : List ℕ) (to : ℕ) (k : List ℕ) (i : ℕ) where
+module _ (frozen log behind k : List ℕ) (i : ℕ) where
   unfoldable pub following : Bool
-  following = followed k (map (record_at frozen log) (drop i (take to sources)))
+  following = followed k (map (record_at frozen log) (drop i behind))
 
-module _ (frozen log sources : List ℕ) (to : ℕ) (k : List ℕ) (i : ℕ) where
-  pub following_end : min to (length sources) ≤ i → following frozen log sources to k i ≡ false
+module _ (frozen log behind k : List ℕ) (i : ℕ) where
+  pub following_end : length behind ≤ i → following frozen log behind k i ≡ false
   unfolding following followed
-  following_end h = rw (none_of sources i to h)
+  following_end h = rw (drop_of_length-le behind h)
 
-  module _ (h : i < min to (length sources)) {next : List ℕ} (e : next ≡ record_at frozen log (get_or sources i 0)) where
-    following_cons : following frozen log sources to k i ≡ (equal k (columns_to 25 next) && (is_primary (kind_of next) || following frozen log sources to k (i + 1)))
+  module _ (h : i < length behind) {next : List ℕ} (e : next ≡ record_at frozen log (get_or behind i 0)) where
+    following_cons : following frozen log behind k i ≡ (equal k (columns_to 25 next) && (is_primary (kind_of next) || following frozen log behind k (i + 1)))
     unfolding following followed
-    following_cons = rw (first_of sources i to h, e)
+    following_cons = rw (add-one, drop-cons behind i 0 h, e)
 
-    pub following_stop : {b : Bool} → b ≡ equal k (columns_to 25 next) → b ≡ false → following frozen log sources to k i ≡ false
+    pub following_stop : {b : Bool} → b ≡ equal k (columns_to 25 next) → b ≡ false → following frozen log behind k i ≡ false
     following_stop p q = following_cons ∙ rw (sym p ∙ q)
 
-    pub following_found : {b : Bool} {c : Kind} → b ≡ equal k (columns_to 25 next) → b ≡ true → c ≡ kind_of next → c ≡ Primary → following frozen log sources to k i ≡ true
+    pub following_found : {b : Bool} {c : Kind} → b ≡ equal k (columns_to 25 next) → b ≡ true → c ≡ kind_of next → c ≡ Primary → following frozen log behind k i ≡ true
     following_found p q u v = following_cons ∙ rw (sym p ∙ q, sym u ∙ v)
 
     pub following_next : {b : Bool} {c : Kind} → b ≡ equal k (columns_to 25 next) → b ≡ true → c ≡ kind_of next → c ≡ Continuation
-        → following frozen log sources to k i ≡ following frozen log sources to k (i + 1)
+        → following frozen log behind k i ≡ following frozen log behind k (i + 1)
     following_next p q u v = following_cons ∙ rw (sym p ∙ q, sym u ∙ v)
 
-pub following_start : (frozen log sources : List ℕ) (to : ℕ) (k : List ℕ) (from : ℕ)
-    → followed k (map (record_at frozen log) (drop from (take to sources))) ≡ following frozen log sources to k from
+pub following_start : (frozen log behind k : List ℕ) → followed k (map (record_at frozen log) behind) ≡ following frozen log behind k 0
 unfolding following
-following_start frozen log sources to k from = refl
+following_start frozen log behind k = refl
 
--- ---- the walk over a range of sources, of which those before i were accepted
+-- ---- the walk over the first n of some sources, of which i were accepted
 
-module _ (known frozen log : List ℕ) (s : Sources) (from to ahead : ℕ) (primary before : List ℕ) (i : ℕ) where
+module _ (known frozen log sources : List ℕ) (n : ℕ) (primary before : List ℕ) (i : ℕ) where
   unfoldable pub walking : Verdict
-  walking = walk_knowing known frozen log (records_in frozen log s to ahead) (seen primary before) (i - from + 1) (sources_in s i to)
+  walking = walk_knowing known frozen log (map (record_at frozen log) (drop n sources)) (seen primary before) (i + 1) (drop i (take n sources))
 
-pub walking_start : (known frozen log : List ℕ) (s : Sources) (from to ahead : ℕ)
-    → walk_knowing known frozen log (records_in frozen log s to ahead) nothing 1 (sources_in s from to) ≡ walking known frozen log s from to ahead [] [] from
+pub walking_start : (known frozen log sources : List ℕ) (n : ℕ)
+    → walk_knowing known frozen log (map (record_at frozen log) (drop n sources)) nothing 1 (take n sources) ≡ walking known frozen log sources n [] [] 0
 unfolding walking
-walking_start known frozen log s from to ahead = let e : from - from + 1 ≡ 1 = omega arith in rw e
+walking_start known frozen log sources n = refl
 
--- what is looked at behind a record that is judged: the rest of the range, and those ahead of it
-in_view : (frozen log : List ℕ) (s : Sources) (i to ahead : ℕ) → i < to → to ≤ ahead
-    → map (record_at frozen log) (sources_in s (i + 1) to) ++ records_in frozen log s to ahead ≡ map (record_at frozen log) (drop (i + 1) (take ahead (in_use s)))
-unfolding records_in
-in_view frozen log s i to ahead h k =
-    sym (map-append (record_at frozen log) (sources_in s (i + 1) to) (sources_in s to ahead)) ∙ ap (map (record_at frozen log)) (range_join (i + 1) to ahead (in_use s) (omega arith) k)
+-- what is looked at behind a record that is judged: the others of the first n, and those behind them
+in_view : (frozen log sources : List ℕ) (n i : ℕ) → i < n
+    → map (record_at frozen log) (drop (i + 1) (take n sources)) ++ map (record_at frozen log) (drop n sources) ≡ map (record_at frozen log) (drop (i + 1) sources)
+in_view frozen log sources n i h =
+    sym (map-append (record_at frozen log) (drop (i + 1) (take n sources)) (drop n sources)) ∙ ap (map (record_at frozen log)) (rest_join (i + 1) n sources (omega arith))
 
-module _ (known frozen log : List ℕ) (s : Sources) (long : length s.at ≡ 480) (from to ahead : ℕ) (primary before : List ℕ) (i : ℕ) where
-  pub walking_end : min to (min s.count 480) ≤ i → walking known frozen log s from to ahead primary before i ≡ Accepted
+module _ (known frozen log sources : List ℕ) (n : ℕ) (primary before : List ℕ) (i : ℕ) where
+  pub walking_end : n ≤ i → walking known frozen log sources n primary before i ≡ Accepted
   unfolding walking walk_knowing
-  walking_end h = rw (range_end s long to i h)
+  walking_end h = rw (drop_of_length-le (take n sources) {i = i} (omega (arith, length-take n sources)))
 
-  module _ (h : i < min to (min s.count 480)) (k : to ≤ ahead) {b : Bool} (p : b ≡ knows known (get_or s.at i 0)) {rec : List ℕ}
-      (e : rec ≡ record_at frozen log (get_or s.at i 0)) {all : List ℕ} (a : all ≡ s.at) {view : ℕ} (w : view ≡ min ahead (min s.count 480))
-      {d : Bool} (z : d ≡ ends_route rec (map (record_at frozen log) (drop (i + 1) (take view all))))
-      {v : Verdict} (q : v ≡ judged_knowing b (seen primary before) (i - from + 1) d rec) where
-    -- the sources that are looked at, as the code has them
-    viewed : d ≡ ends_route rec (map (record_at frozen log) (drop (i + 1) (take ahead (in_use s))))
-    viewed = z ∙ ap (λ (xs : List ℕ). ends_route rec (map (record_at frozen log) (drop (i + 1) xs))) (rw a (used_to s long ahead w))
-
-    walking_cons : walking known frozen log s from to ahead primary before i
+  module _ (h : i < n) (long : n ≤ length sources) {b : Bool} (p : b ≡ knows known (get_or sources i 0)) {rec : List ℕ}
+      (e : rec ≡ record_at frozen log (get_or sources i 0)) {d : Bool}
+      (z : d ≡ ends_route rec (map (record_at frozen log) (take (length sources - (i + 1)) (drop (i + 1) sources))))
+      {v : Verdict} (q : v ≡ judged_knowing b (seen primary before) (i + 1) d rec) where
+    walking_cons : walking known frozen log sources n primary before i
         ≡ in_turn
         (v ∷
-        walk_knowing known frozen log (records_in frozen log s to ahead) (seen (primary_after primary rec) rec) (i - from + 1 + 1) (sources_in s (i + 1) to) ∷
+        walk_knowing known frozen log (map (record_at frozen log) (drop n sources)) (seen (primary_after primary rec) rec) (i + 1 + 1) (drop (i + 1) (take n sources)) ∷
         [])
     unfolding walking walk_knowing
-    walking_cons = rw (range_next s long to i h, in_view frozen log s i to ahead (omega arith) k, ← p, ← e, ← viewed, q)
+    walking_cons =
+        let rest : take (length sources - (i + 1)) (drop (i + 1) sources) ≡ drop (i + 1) sources = take_all (length sources - (i + 1)) (drop (i + 1) sources) (omega (arith, length-drop (i + 1) sources)) in
+        rw (first_of sources i n (omega arith), in_view frozen log sources n i h, ← p, ← e, ← rest, ← z, q)
 
-    pub walking_stop : {r : Refusal} → v ≡ Refused r → walking known frozen log s from to ahead primary before i ≡ Refused r
+    pub walking_stop : {r : Refusal} → v ≡ Refused r → walking known frozen log sources n primary before i ≡ Refused r
     walking_stop x = walking_cons ∙ sym (stops _ x)
 
-    pub walking_next : {last : List ℕ} → from ≤ i → v ≡ Accepted → last ≡ primary_after primary rec
-        → walking known frozen log s from to ahead primary before i ≡ walking known frozen log s from to ahead last rec (i + 1)
+    pub walking_next : {first last : List ℕ} → v ≡ Accepted → first ≡ primary_after primary rec → last ≡ rec
+        → walking known frozen log sources n primary before i ≡ walking known frozen log sources n first last (i + 1)
     unfolding walking
-    walking_next o x y = let z : i - from + 1 + 1 ≡ i + 1 - from + 1 = omega arith in walking_cons ∙ sym (goes_on _ x) ∙ rw (y, z)
+    walking_next x y w = walking_cons ∙ sym (goes_on _ x) ∙ rw (y, w)

@@ -1,6 +1,6 @@
 -- What is seen at a glance of records that stand: each a primary without continuations, and behind the one before it in one route.
 -- Assumes nothing.
-use Rattle.std.specs.Prelude.{ℕ, ◌≡◌, Bool, true, List, [], ◌∷◌, eqb, take, drop}
+use Rattle.std.specs.Prelude.{ℕ, ◌≡◌, Bool, true, List, [], ◌∷◌, eqb}
 use Prim.Native.Char.{code}
 use Rattle.columns.specs.Rows.{byte_in}
 use Rattle.routes.specs.Known.{knows}
@@ -30,7 +30,3 @@ pub data Standing (known frozen log : List ℕ) : (before : List ℕ) → (sourc
   ends : {before : List ℕ} → last_leg before ≡ true → Standing known frozen log before []
   goes : {before : List ℕ} {x : ℕ} {xs : List ℕ} → knows known x ≡ true → Follows before (record_at frozen log x)
       → Standing known frozen log (record_at frozen log x) xs → Standing known frozen log before (x ∷ xs)
-
--- those of the sources from one on up to another
-unfoldable pub StandingIn : (known frozen log before sources : List ℕ) (from to : ℕ) → Type 0
-StandingIn known frozen log before sources from to = Standing known frozen log before (drop from (take to sources))

@@ -50,10 +50,6 @@ module _ (known frozen log : List ℕ) where
       walk_knowing ahead (seen_with s (record_at frozen log x)) (place + 1) xs ∷
       [])
 
-  -- those of a range of sources, counted from 1; the others up to `ahead` are in view
-  abbrev pub range_knowing : Sources → (from to ahead : ℕ) → Verdict
-  range_knowing s from to ahead = walk_knowing (records_in frozen log s to ahead) nothing 1 (sources_in s from to)
-
   -- counted from 1, with nothing ahead of them, and then what is missing at their end
   unfoldable pub walked_knowing : List ℕ → Verdict
   walked_knowing xs = in_turn (walk_knowing [] nothing 1 xs ∷ finished (map (record_at frozen log) xs) ∷ [])

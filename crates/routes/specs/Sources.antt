@@ -18,6 +18,9 @@ log_source at = first_of_log + at
 unfoldable pub record_at : List ℕ → List ℕ → ℕ → List ℕ
 record_at frozen log source = cond (ltb source first_of_log) (record_within frozen source) (record_within log (source - first_of_log))
 
+abbrev pub records_at : (frozen log sources : List ℕ) → List (List ℕ)
+records_at frozen log xs = map (record_at frozen log) xs
+
 -- the sources that count; those from one on up to another, where they count from 0; and their records
 unfoldable pub in_use : Sources → List ℕ
 in_use s = take s.count s.at
@@ -27,10 +30,6 @@ sources_in s from to = drop from (take to (in_use s))
 
 unfoldable pub records_in : List ℕ → List ℕ → Sources → (from to : ℕ) → List (List ℕ)
 records_in frozen log s from to = map (record_at frozen log) (sources_in s from to)
-
--- the records of some sources, from one on up to another
-abbrev pub viewed : (frozen log sources : List ℕ) (from to : ℕ) → List (List ℕ)
-viewed frozen log xs from to = map (record_at frozen log) (drop from (take to xs))
 
 -- a file's records: its leading pieces of 133 bytes that end in a line feed, at most so many; each without its line feed
 unfoldable pub leading : ℕ → List ℕ → List (List ℕ)

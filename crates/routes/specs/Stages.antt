@@ -1,7 +1,7 @@
 -- The stages that look at what stands around a record: 6 continuations, 7 order, 8 legs. Each is told where the key of a route ends, or
 -- the head that a continuation shares with its primary, and in which column the continuation number stands.
 -- Assumes nothing.
-use Rattle.std.specs.Prelude.{ℕ, ◌+◌, Bool, cond, not, ◌&&◌, List, [], ◌∷◌, eqb, leb}
+use Rattle.std.specs.Prelude.{ℕ, ◌+◌, Bool, cond, not, ◌&&◌, List, [], ◌∷◌, Option, None, Some, eqb, leb}
 use Prim.Native.Char.{code}
 use Rattle.slices.specs.Part.{part}
 use Rattle.slices.specs.Order.{order, equal}
@@ -42,6 +42,10 @@ unfoldable pub first_difference : ℕ → List ℕ → List ℕ → ℕ
 first_difference c [] ys = 0
 first_difference c (x ∷ xs) [] = c
 first_difference c (x ∷ xs) (y ∷ ys) = cond (eqb x y) (first_difference (c + 1) xs ys) c
+
+-- a column, where it is none of 0, which says that none was found
+unfoldable pub found : ℕ → Option ℕ
+found c = cond (eqb c 0) None (Some c)
 
 -- the record is a primary 1, so its continuation has to come next
 unfoldable pub awaits : ℕ → List ℕ → Bool

@@ -1,140 +1,79 @@
 // A quick yes: records that are seen at a glance to stand, since each is known, is a primary without continuations, and is behind the one
 // before it in one route. Routes are nearly always so, and a route is judged again with every correction of it. What is not so is not
-// refused here: the walk says what it is. Assumes of its callers, all in this crate, that the table of pairs is right, and that the kind and
-// the legs at hand are the records' own.
-ghost use Rattle.std.specs.Prelude.{◌≡◌, true, ◌≤◌, take, drop};
+// refused here: the walk says what it is. Assumes nothing of the caller.
+ghost use Rattle.std.specs.Prelude.{◌≡◌, true, IfSome};
 ghost use Rattle.refusals.specs.Table.{Accepted};
-ghost use Rattle.routes.specs.Pairs.{terminator_in, kind_number, PairTable};
 ghost use Rattle.routes.specs.Known.{walked_knowing};
-ghost use Rattle.routes.specs.Glance.{lone, Begins, Follows, StandingIn};
+ghost use Rattle.routes.specs.Glance.{lone, Begins, Follows, Standing};
 
 use crate::known::knows;
-use crate::{KEY, NUMBER, pairs, record_at};
+use crate::pairs::{Leg, pair};
+use crate::{KEY, NUMBER, Texts};
 use leg::terminator::Terminator;
-use slices::{byte_at, compare, least, same};
-use std::cmp::Ordering;
+use slices::{byte_at, compare, same};
 
 // Whether a record is a primary without continuations.
+#[tactic(auto, unfolding(crate::specs::Glance::lone))]
 fn lone(rec: &[u8]) -> bool
     ensures { result ≡ lone rec.now }
 {
     byte_at(rec, NUMBER - 1) == b'0'
 }
 
-// Whether a record may come first: it begins its route, whose kind and first leg are at hand, and this is later than none at all, which is
-// one of nothing but 0.
-fn begins(kind: usize, leg: Terminator, rec: &[u8]) -> bool
-    requires { (kind ≡ kind_number rec.now) × (kind ≤ 9) × (leg ≡ terminator_in rec.now) }
-    ensures { result ≡ true → Begins rec.now }
+// Whether a leg may come first: it begins its route, and this is later than none at all, which is one of nothing but 0.
+fn begins<'a>(leg: Leg<'a>) -> bool
+    ensures { result ≡ true → Begins leg.entry.rec.now }
 {
-    if !lone(rec) {
-        return false;
-    }
-    if byte_at(rec, 0) == 0 {
-        return false;
-    }
-    pairs::may_begin(kind, leg)
+    lone(leg.rec) && byte_at(leg.rec, 0) != 0 && leg.may_begin()
 }
 
-// Whether a record may stand behind another in one route. The legs of both are at hand.
-fn follows<'a>(
-    pairs: &[u8],
-    before: &'a [u8],
-    leg: Terminator,
-    rec: &'a [u8],
-    next: Terminator,
-) -> bool
-    requires { PairTable pairs.now × (leg ≡ terminator_in before.now) × (next ≡ terminator_in rec.now) }
-    ensures { result ≡ true → Follows before.now rec.now }
+// The leg of a record, if it may stand behind another in one route. That is of the kind of the one before it.
+fn next<'a>(before: Leg<'a>, rec: &'a [u8]) -> Option<Leg<'a>>
+    ensures { IfSome result (λ leg. (leg.rec.now ≡ rec.now) × Follows before.entry.rec.now rec.now) }
 {
-    if !lone(rec) {
-        return false;
+    if !lone(rec) || !same(before.rec, 0, rec, 0, KEY) {
+        return None;
     }
-    if !same(before, 0, rec, 0, KEY) {
-        return false;
-    }
-    let way = compare(before, 26, rec, 26, 3);
-    match way {
-        Ordering::Less => pairs::pair_in(pairs, leg, next),
-        Ordering::Equal => false,
-        Ordering::Greater => false,
+    let leg = Leg {
+        rec,
+        kind: before.kind,
+        terminator: Terminator::of(rec),
+    };
+    if compare(before.rec, 26, rec, 26, 3).is_lt() && pair(before.terminator, leg.terminator) {
+        Some(leg)
+    } else {
+        None
     }
 }
 
-// Whether the records of some sources, from one on up to another, stand behind a first, each behind the one before it, and the last may end
-// the route, whose kind and first leg are at hand. The terminator of each is found once: it is asked behind the one before, and before the next.
-fn stand_behind<'a>(
-    pairs: &[u8],
-    frozen: &'a [u8],
-    log: &'a [u8],
-    known: &[u32],
-    sources: &[u32],
-    from: usize,
-    to: usize,
-    first: &'a [u8],
-    kind: usize,
-    begun: Terminator,
-) -> bool
-    requires { PairTable pairs.now × (kind ≡ kind_number first.now) × (kind ≤ 9) × (begun ≡ terminator_in first.now) }
-    ensures { result ≡ true
-        → StandingIn known.now frozen.now log.now first.now sources.now from to }
+// Whether the records of some sources stand behind a first, each behind the one before it, and the last may end the route. The terminator of
+// each is found once: it is asked behind the one before, and before the next.
+fn stand_behind<'a>(texts: Texts<'a>, known: &[u32], sources: &[u32], first: Leg<'a>) -> bool
+    ensures { result ≡ true → Standing known.now texts.entry.frozen.now texts.entry.log.now first.entry.rec.now sources.now }
 {
-    let end = least(to, sources.len());
     let mut before = first;
-    let mut leg = begun;
-    let mut i = from;
-    while i < end {
-        let source = sources[i];
+    for &source in sources {
         if !knows(known, source) {
             return false;
         }
-        let rec = record_at(frozen, log, source);
-        let next = Terminator::of(rec);
-        if !follows(pairs, before, leg, rec, next) {
+        let Some(leg) = next(before, texts.record(source)) else {
             return false;
-        }
-        before = rec;
-        leg = next;
-        i += 1;
+        };
+        before = leg;
     }
-    pairs::may_end(kind, leg)
+    before.may_end()
 }
 
-// Whether the records of some sources, from one on up to another, are seen at a glance to be accepted. No is no answer.
-pub(crate) fn stand<'a>(
-    frozen: &'a [u8],
-    log: &'a [u8],
-    known: &[u32],
-    sources: &[u32],
-    from: usize,
-    to: usize,
-) -> bool
-    ensures { result ≡ true
-        → walked_knowing known.now frozen.now log.now (drop from (take to sources.now)) ≡ Accepted }
+// Whether the records of some sources are seen at a glance to be accepted. No is no answer.
+pub(crate) fn stand<'a>(texts: Texts<'a>, known: &[u32], sources: &[u32]) -> bool
+    ensures { result ≡ true → walked_knowing known.now texts.entry.frozen.now texts.entry.log.now sources.now ≡ Accepted }
 {
-    if least(to, sources.len()) <= from {
+    let Some((&source, behind)) = sources.split_first() else {
         return false;
-    }
-    let source = sources[from];
+    };
     if !knows(known, source) {
         return false;
     }
-    let first = record_at(frozen, log, source);
-    let kind = pairs::kind_number(first);
-    let leg = Terminator::of(first);
-    if !begins(kind, leg, first) {
-        return false;
-    }
-    stand_behind(
-        &pairs::PAIRS,
-        frozen,
-        log,
-        known,
-        sources,
-        from + 1,
-        to,
-        first,
-        kind,
-        leg,
-    )
+    let first = Leg::of(texts.record(source));
+    begins(first) && stand_behind(texts, known, behind, first)
 }

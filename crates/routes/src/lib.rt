@@ -10,19 +10,17 @@ mod record;
 mod stages;
 mod texts;
 
-ghost use Rattle.std.specs.Prelude.{◌≡◌, [], ◌∷◌, ◌≤◌, length};
-ghost use Rattle.routes.specs.InTurn.{in_turn};
-ghost use Rattle.routes.specs.Known.{judged_knowing, range_knowing, walked_knowing};
-ghost use Rattle.routes.specs.Sources.{log_source, record_at, sources_in, records_in, sources_to, records, sources_of};
-ghost use Rattle.routes.specs.Stages.{seen};
-ghost use Rattle.routes.specs.Walk.{judged_behind, primary_after, finished, walked};
+ghost use Rattle.std.specs.Prelude.{◌≡◌, ◌≤◌, length, take, drop};
+ghost use Rattle.routes.specs.Known.{walk_knowing, walked_knowing};
+ghost use Rattle.routes.specs.Sources.{log_source, record_at, records_at, sources_in, records_in, sources_to, records, sources_of};
+ghost use Rattle.routes.specs.Stages.{nothing};
+ghost use Rattle.routes.specs.Walk.{finished, walked};
 ghost use Rattle.routes.specs.Files.{tail_stage, file_verdict};
 
 use ahead::ends_route;
-use columns::Kind;
 use known::{NOTHING_KNOWN, knows};
 use refusals::{MOST_RECORDS, Refusal, Verdict};
-use slices::least;
+use stages::{Seen, awaits};
 pub use texts::Texts;
 
 // Where the key of a route ends, and the head that a continuation shares with its primary; the column of the continuation number.
@@ -42,11 +40,22 @@ pub const LONGEST_FILE: usize = MOST_RECORDS * LINE_WIDTH;
 // From this number on a source is one of the log; below it, one of the frozen file.
 const FIRST_OF_LOG: u32 = 1000000;
 
-// Where records lie, at most 480 of them; zeros past the count.
-#[derive(Clone, Copy)]
+// Where records lie, at most 480 of them; zeros past the count. No slice and no list that grows in place of the two fields: this is the public
+// type that callers fill and read, and tests read its zeros.
+#[derive(Clone, Copy, Debug, PartialEq, Eq)]
 pub struct Sources {
     pub count: usize,
     pub at: [u32; MOST_RECORDS],
+}
+
+impl Sources {
+    // Those that count from one on up to another, where they count from 0.
+    fn range(&self, from: usize, to: usize) -> &[u32]
+        ensures { result.now ≡ sources_in self.now from to }
+    {
+        let end = to.min(self.count.min(MOST_RECORDS));
+        self.at.get(from..end).unwrap_or(&[])
+    }
 }
 
 // The source of the record at an offset of the log. Every record of a log, which has at most 60,000 bytes, lies at an offset that is a u16.
@@ -62,24 +71,22 @@ pub fn record_at<'a>(frozen: &'a [u8], log: &'a [u8], source: u32) -> &'a [u8]
     ensures { result.now ≡ record_at frozen.now log.now source }
 {
     if source < FIRST_OF_LOG {
-        record::within(frozen, source as usize)
+        record::within(frozen, source)
     } else {
-        record::within(log, (source - FIRST_OF_LOG) as usize)
+        record::within(log, source - FIRST_OF_LOG)
     }
 }
 
 // How many records a file has: its leading pieces of 133 bytes that end in a line feed, at most 480.
 fn count_records(file: &[u8]) -> usize
-    ensures { result ≡ length (records file.now) }
+    ensures { (result ≡ length (records file.now)) × (result ≤ 480) }
 {
-    let mut i: usize = 0;
-    while i < MOST_RECORDS {
-        if slices::byte_at(file, i * LINE_WIDTH + RECORD_WIDTH) != 10 {
+    for i in 0..MOST_RECORDS {
+        if slices::byte_at(file, i * LINE_WIDTH + RECORD_WIDTH) != b'\n' {
             return i;
         }
-        i += 1;
     }
-    i
+    MOST_RECORDS
 }
 
 // The sources of the first n pieces of a file.
@@ -87,142 +94,50 @@ fn sources_to(n: usize) -> Sources
     requires { n ≤ 480 }
     ensures { result ≡ sources_to n }
 {
-    let mut found = Sources {
-        count: 0,
-        at: [0u32; MOST_RECORDS],
-    };
-    let mut i: usize = 0;
-    while i < n {
-        found.at[i] = (i * LINE_WIDTH) as u32;
-        i += 1;
-        found.count = i;
+    let mut at = [0; MOST_RECORDS];
+    for i in 0..n {
+        at[i] = (i * LINE_WIDTH) as u32;
     }
-    found
+    Sources { count: n, at }
 }
 
 // The sources of a file's own records: the leading ones that end in a line feed.
 pub fn sources_of(file: &[u8]) -> Sources
     ensures { result ≡ sources_of file.now }
 {
-    let count = count_records(file);
-    sources_to(count)
+    sources_to(count_records(file))
 }
 
-// Judges one record by what stands before it, the last primary and the record before this one, and by whether it is the last leg of its
-// route: 6, 7, 8. Both records are empty where nothing stands before it.
-fn judge_behind<'a>(
-    primary: &'a [u8],
-    before: &'a [u8],
-    rec: &'a [u8],
-    place: usize,
-    last: bool,
-) -> Verdict
-    ensures { result ≡ judged_behind (seen primary.now before.now) place last rec.now }
-{
-    let kind = columns::kind_of(rec);
-    let continued = stages::continuation_stage(HEAD, NUMBER, kind, primary, before, rec, place);
-    let sequence = stages::sequence_stage(primary, rec, place);
-    let ordered = stages::order_stage(KEY, kind, primary, rec, place, sequence);
-    let flown = stages::leg_stage(KEY, kind, primary, rec, place);
-    let ending = stages::ending_stage(last, rec, place);
-    in_turn(continued, in_turn(ordered, in_turn(flown, ending)))
-}
-
-// Judges one record after the last primary and the record before it: 3, 4, 5 by itself, unless it is known to be legal, then 6, 7, 8.
-fn judge_next<'a>(
-    known: bool,
-    primary: &'a [u8],
-    before: &'a [u8],
-    rec: &'a [u8],
-    place: usize,
-    last: bool,
-) -> Verdict
-    ensures { result ≡ judged_knowing known (seen primary.now before.now) place last rec.now }
-{
-    let behind = judge_behind(primary, before, rec, place, last);
-    if known {
-        return behind;
-    }
-    let alone = leg::judge(rec, place);
-    in_turn(alone, behind)
-}
-
-// The first of two verdicts that refuses.
-fn in_turn(first: Verdict, next: Verdict) -> Verdict
-    ensures { result ≡ in_turn (first ∷ next ∷ []) }
-{
-    match first {
-        Ok(()) => next,
-        Err(r) => Err(r),
-    }
-}
-
-// The last primary once this record was seen.
-fn primary_after<'a>(primary: &'a [u8], rec: &'a [u8]) -> &'a [u8]
-    ensures { result.now ≡ primary_after primary.now rec.now }
-{
-    let kind = columns::kind_of(rec);
-    match kind {
-        Kind::Primary => rec,
-        Kind::Continuation => primary,
-    }
-}
-
-// Judges the records of a range of sources in sequence, counted from 1. Those from there on up to `ahead` are looked at, and not judged.
+// Judges the records of the first n of some sources in sequence, counted from 1. Those of the others are looked at, and not judged.
 // Records that a table knows are not judged by themselves.
-fn walk<'a>(
-    frozen: &'a [u8],
-    log: &'a [u8],
-    known: &[u32],
-    sources: Sources,
-    from: usize,
-    to: usize,
-    ahead: usize,
-) -> Verdict
-    requires { to ≤ ahead }
-    ensures { result ≡ range_knowing known.now frozen.now log.now sources from to ahead }
+fn walk<'a>(texts: Texts<'a>, known: &[u32], sources: &[u32], n: usize) -> Verdict
+    requires { n ≤ length sources.now }
+    ensures { result ≡ walk_knowing known.now texts.entry.frozen.now texts.entry.log.now (records_at texts.entry.frozen.now texts.entry.log.now (drop n sources.now)) nothing 1 (take n sources.now) }
 {
-    let count = sources.count;
-    let all = sources.at;
-    let used = least(count, MOST_RECORDS);
-    let view = least(ahead, used);
-    let end = least(to, used);
-    let mut primary = &frozen[0..0];
-    let mut before = &frozen[0..0];
-    let mut i = from;
-    while i < end {
-        let source = sources.at[i];
-        let legal = knows(known, source);
-        let rec = record_at(frozen, log, source);
-        let last = ends_route(frozen, log, &all, i + 1, view, rec);
-        let verdict = judge_next(legal, primary, before, rec, i - from + 1, last);
-        match verdict {
-            Ok(()) => {}
-            Err(r) => {
-                return Err(r);
-            }
-        }
-        let newest = primary_after(primary, rec);
-        primary = newest;
-        before = rec;
-        i += 1;
+    let mut seen = Seen {
+        primary: &[],
+        before: &[],
+    };
+    for i in 0..n {
+        let source = sources[i];
+        let rec = texts.record(source);
+        let last = ends_route(texts, &sources[i + 1..], rec);
+        seen.judge_next(knows(known, source), rec, i + 1, last)?;
+        seen = seen.after(rec);
     }
     Ok(())
 }
 
-// Whether a continuation is missing past the last record of a range of sources, which are read as `judge_range` reads them.
-fn finish<'a>(frozen: &'a [u8], log: &'a [u8], sources: Sources, from: usize, to: usize) -> Verdict
-    ensures { result ≡ finished (records_in frozen.now log.now sources from to) }
+// Whether a continuation is missing past the last record of some sources.
+#[tactic(auto, unfolding(crate::specs::Walk::finished, crate::specs::Walk::last, crate::specs::Stages::awaits))]
+fn finish<'a>(texts: Texts<'a>, sources: &[u32]) -> Verdict
+    ensures { result ≡ finished (records_at texts.entry.frozen.now texts.entry.log.now sources.now) }
 {
-    let count = sources.count;
-    let end = least(to, least(count, MOST_RECORDS));
-    if end <= from {
+    let Some(&source) = sources.last() else {
         return Ok(());
-    }
-    let source = sources.at[end - 1];
-    let rec = record_at(frozen, log, source);
-    if stages::awaits(NUMBER, rec) {
-        return Err(Refusal::continuation_number(end - from + 1));
+    };
+    if awaits(texts.record(source)) {
+        return Err(Refusal::continuation_number(sources.len() + 1));
     }
     Ok(())
 }
@@ -241,14 +156,13 @@ pub fn judge_known<'a>(
 ) -> Verdict
     ensures { result ≡ walked_knowing known.now frozen.now log.now (sources_in sources from to) }
 {
-    let count = sources.count;
-    let end = least(to, least(count, MOST_RECORDS));
-    if glance::stand(frozen, log, known, &sources.at, from, end) {
+    let texts = Texts { frozen, log };
+    let range = sources.range(from, to);
+    if glance::stand(texts, known, range) {
         return Ok(());
     }
-    let judged = walk(frozen, log, known, sources, from, to, to);
-    let finished = finish(frozen, log, sources, from, to);
-    in_turn(judged, finished)
+    walk(texts, known, range, range.len())?;
+    finish(texts, range)
 }
 
 // The same with nothing known: every record is judged by itself.
@@ -269,19 +183,15 @@ fn judge_tail(file: &[u8], n: usize) -> Verdict
     requires { n ≤ 480 }
     ensures { result ≡ tail_stage (length file.now) n }
 {
-    let whole = n * LINE_WIDTH;
-    if file.len() <= whole {
-        return Ok(());
+    match file.len().saturating_sub(n * LINE_WIDTH) {
+        0 => Ok(()),
+        tail => Err(Refusal::cut_short(n + 1, LINE_WIDTH.min(tail + 1))),
     }
-    let tail = file.len() - whole;
-    if tail < LINE_WIDTH {
-        return Err(Refusal::cut_short(n + 1, tail + 1));
-    }
-    Err(Refusal::cut_short(n + 1, LINE_WIDTH))
 }
 
 // Judges a file: 2 for its size; then record by record 1, 3, 4, 5, 6, 7, 8; a continuation that is missing past the last record. A piece of
 // 133 bytes behind the records, which does not end in a line feed, is looked at for the last leg of a route.
+#[tactic(auto, using(crate::proofs::FileLaws::too_long_lem))]
 pub fn check(file: &[u8]) -> Verdict
     ensures { result ≡ file_verdict file.now }
 {
@@ -291,8 +201,11 @@ pub fn check(file: &[u8]) -> Verdict
     let count = count_records(file);
     let whole = file.len() / LINE_WIDTH;
     let pieces = sources_to(whole);
-    let judged = walk(file, file, &NOTHING_KNOWN, pieces, 0, count, whole);
-    let tail = judge_tail(file, count);
-    let finished = finish(file, file, pieces, 0, count);
-    in_turn(judged, in_turn(tail, finished))
+    let texts = Texts {
+        frozen: file,
+        log: file,
+    };
+    walk(texts, &NOTHING_KNOWN, &pieces.at[..whole], count)?;
+    judge_tail(file, count)?;
+    finish(texts, &pieces.at[..count])
 }

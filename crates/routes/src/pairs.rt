@@ -1,9 +1,10 @@
 // Which leg may begin and which may end a route of which kind, and which may follow which: Attachment 5's tables, as specs/LegTable sets
 // them out. Assumes of its callers, all in this crate, that a table of pairs is right, and a kind's number one of the nine's or 9.
-ghost use Rattle.std.specs.Prelude.{◌≡◌, ◌≤◌};
+ghost use Rattle.std.specs.Prelude.{◌≡◌, ◌+◌, ◌*◌, ◌<◌, ◌≤◌, eqb, get_or};
 ghost use Rattle.slices.specs.Search.{first_at};
 ghost use Rattle.columns.specs.Rows.{byte_in};
-ghost use Rattle.routes.specs.Pairs.{kind_lines, of_line, kind_number, may_begin, may_end, first_leg, last_leg, pair, PairTable};
+ghost use Rattle.leg.specs.Terminator.{terminator_number};
+ghost use Rattle.routes.specs.Pairs.{terminator_in, kind_lines, of_line, kind_number, first_leg, last_leg, pair};
 
 use columns::field::Field;
 use leg::terminator::Terminator;
@@ -22,7 +23,7 @@ const MOST_TYPES: usize = KIND_WIDTH - 1;
 // AF CA CD CF CI CR DF FA FC FD FM HA HF HM IF PI RF TF VA VD VI VM VR.
 
 // A line for each leg, a cell for each that may come behind it.
-pub(crate) const PAIRS: [u8; 529] = *b"\
+const PAIRS: [u8; 529] = *b"\
     ++++++++++++++-++++++++\
     +++++++-----------+++++\
     +++++++-----------+++++\
@@ -93,72 +94,73 @@ fn kind_among(kinds: &[u8], rec: &[u8]) -> usize
 {
     let subsection = byte_at(rec, SUBSECTION - 1);
     let route_type = byte_at(rec, ROUTE_TYPE - 1);
-    let mut i = 0;
-    while i < KIND_COUNT {
+    for i in 0..KIND_COUNT {
         let at = i * KIND_WIDTH;
-        if byte_at(kinds, at) == subsection {
-            if (route_type != b' ') & has(kinds, at + 1, MOST_TYPES, route_type) {
-                return i;
-            }
+        if byte_at(kinds, at) == subsection
+            && route_type != b' '
+            && has(kinds, at + 1, MOST_TYPES, route_type)
+        {
+            return i;
         }
-        i += 1;
     }
-    i
+    KIND_COUNT
 }
 
-// The place of the kind of a record's route among the nine, or 9 where it is of none, which is refused by 3 before anything asks.
-pub(crate) fn kind_number(rec: &[u8]) -> usize
+// The place of the kind of a record's route among the nine. It is 9 where it is of none, which is refused by 3 before anything asks: no table
+// has a line there, so none of its cells is marked.
+fn kind_number(rec: &[u8]) -> usize
     ensures { (result ≡ kind_number rec.now) × (result ≤ 9) }
 {
     kind_among(&KINDS, rec)
 }
 
-// Whether a leg may be the first of a route of a kind, and whether it may be the last.
-pub(crate) fn may_begin(kind: usize, t: Terminator) -> bool
-    requires { kind ≤ 9 }
-    ensures { result ≡ may_begin kind t }
+// Whether the cell of a leg is marked in a line of a table.
+fn is_marked(table: &[u8], line: usize, t: Terminator) -> bool
+    requires { line < 23 }
+    ensures { result ≡ eqb (get_or table.now (line * 23 + terminator_number t) 0) 43 }
 {
-    let n = t.number();
-    byte_at(&BEGINNINGS, kind * LEGS + n) == b'+'
+    byte_at(table, line * LEGS + t.number()) == b'+'
 }
 
-pub(crate) fn may_end(kind: usize, t: Terminator) -> bool
-    requires { kind ≤ 9 }
-    ensures { result ≡ may_end kind t }
-{
-    let n = t.number();
-    byte_at(&ENDINGS, kind * LEGS + n) == b'+'
-}
-
-// Whether the record may be the first leg of its route, and whether it may be the last.
-pub(crate) fn first_leg(rec: &[u8]) -> bool
-    ensures { result ≡ first_leg rec.now }
-{
-    let kind = kind_number(rec);
-    let t = Terminator::of(rec);
-    may_begin(kind, t)
-}
-
-pub(crate) fn last_leg(rec: &[u8]) -> bool
-    ensures { result ≡ last_leg rec.now }
-{
-    let kind = kind_number(rec);
-    let t = Terminator::of(rec);
-    may_end(kind, t)
-}
-
-// Whether a leg of u may follow a leg of t within a route, by the table of pairs. That is lent, since whoever names it has it made anew.
-pub(crate) fn pair_in(pairs: &[u8], t: Terminator, u: Terminator) -> bool
-    requires { PairTable pairs.now }
-    ensures { result ≡ pair t u }
-{
-    let m = t.number();
-    let n = u.number();
-    byte_at(pairs, m * LEGS + n) == b'+'
-}
-
+// Whether a leg of u may follow a leg of t within a route.
 pub(crate) fn pair(t: Terminator, u: Terminator) -> bool
     ensures { result ≡ pair t u }
 {
-    pair_in(&PAIRS, t, u)
+    is_marked(&PAIRS, t.number(), u)
+}
+
+// A record as the tables of kinds have it: by the kind of its route and its terminator, each of which is looked up once.
+#[derive(Clone, Copy)]
+pub(crate) struct Leg<'a> {
+    pub(crate) rec: &'a [u8],
+    pub(crate) kind: usize,
+    pub(crate) terminator: Terminator,
+    ghost kind_is: { kind ≡ kind_number rec.now },
+    ghost kind_within: { kind ≤ 9 },
+    ghost terminator_is: { terminator ≡ terminator_in rec.now },
+}
+
+impl<'a> Leg<'a> {
+    pub(crate) fn of(rec: &'a [u8]) -> Leg<'a>
+        ensures { result.rec.now ≡ rec.now }
+    {
+        Leg {
+            rec,
+            kind: kind_number(rec),
+            terminator: Terminator::of(rec),
+        }
+    }
+
+    // Whether it may be the first leg of its route, and whether it may be the last.
+    pub(crate) fn may_begin(self) -> bool
+        ensures { result ≡ first_leg self.entry.rec.now }
+    {
+        is_marked(&BEGINNINGS, self.kind, self.terminator)
+    }
+
+    pub(crate) fn may_end(self) -> bool
+        ensures { result ≡ last_leg self.entry.rec.now }
+    {
+        is_marked(&ENDINGS, self.kind, self.terminator)
+    }
 }

@@ -5,7 +5,7 @@ ghost use Rattle.routes.specs.Sources.{record_at};
 use crate::record_at;
 
 // The frozen file and the log, of any content and size.
-#[derive(Clone, Copy)]
+#[derive(Clone, Copy, Debug, PartialEq, Eq)]
 pub struct Texts<'a> {
     pub frozen: &'a [u8],
     pub log: &'a [u8],

@@ -1,6 +1,7 @@
 -- Laws of the steps of a pick: what was opened, the whole log, the corrections taken alone; a law for each way that a step ends.
 -- Assumes nothing.
-use Rattle.std.specs.Prelude.{Ok, Err}
+use Rattle.std.specs.Prelude.{Result, Ok, Err, MatchResult, IsErrAnd}
+use Rattle.std.proofs.lemmas.Result.{err_from_is_err_and}
 use Rattle.refusals.specs.Table.{Verdict, Accepted, Refused}
 use mathlib.Core.Path.{◌≡◌, refl, sym, ap, ap₂, subst, ◌∙◌}
 use mathlib.Core.Bool.{Bool, true, false, cond}
@@ -21,18 +22,16 @@ use Rattle.history.specs.Sets.{Numbers}
 use Rattle.corrections.specs.Reading.{Entry, Reading, refused, said, read_log, index_of}
 use Rattle.corrections.specs.declared.Index.{Index}
 use Rattle.corrections.proofs.FrontLaws.{not_said}
-use Rattle.corrections.proofs.Legality.{verdict_said}
 use Rattle.applying.specs.Apply.{Within, entries_from}
 use Rattle.applying.specs.Bounds.{ran_over, ran_over_by, ran_as}
-use Rattle.applying.specs.Correct.{Wrong, no_more, Outcome, stopped, reached, corrected}
+use Rattle.applying.specs.Correct.{Outcome, stopped, reached, corrected, fault_as}
 use Rattle.applying.specs.Run.{by_correction, onward, ran, ran_by, marked}
 use Rattle.selection.specs.Reliance.{reliances, Taken}
-use Rattle.selection.specs.Pick.{Reads, Opens, length_stage, if_accepted, opened, wanted_stage, everything, members_from, members_as, refused_by, picked, judged_first, ran_first, outcome_verdict, carried, taken_of, pick_by, outcome_of, pick_from, pick_of, picked_as}
-use Rattle.selection.specs.Failing.{line_at, failure_with, fault_of, failure_as, judged_then, failure_of, settled, settled_from, settled_of}
-use Rattle.selection.specs.Reasons.{reasons_by, unless_stopped, reasons_from, reasons_of, reasons_with, reasons_as}
-use Rattle.selection.specs.declared.Explained.{Explained}
+use Rattle.selection.specs.Pick.{Reads, Opens, length_stage, if_accepted, opening_of, opened, wanted_stage, everything, members_from, members_as, refused_by, picked, judged_first, ran_first, outcome_verdict, carried, taken_of, pick_by, outcome_of, pick_from, pick_of, picked_as}
+use Rattle.selection.specs.Failing.{line_at, failure_with, failure_by, failure_as, judged_then, failure_of, settled, settled_from, settled_of}
+use Rattle.selection.specs.declared.choosing.Chosen.{Chosen}
+use Rattle.selection.specs.Reasons.{Chooses, reasons_by, unless_stopped, reasons_from, reasons_of, reasons_with, reasons_as}
 use Rattle.selection.specs.declared.Failure.{Failure}
-use Rattle.selection.specs.declared.Picked.{Picked}
 use Rattle.selection.specs.declared.carry.Members.{Members}
 use Rattle.applying.specs.declared.Ran.{Ran}
 use Rattle.applying.proofs.BoundLaws.{ran_bound}
@@ -69,68 +68,57 @@ module _ (log : List ℕ) (index : Index) (r : Reads log index) where
 
 -- ---- what was opened
 
-refused_as : (o : Reading) (r : Refusal) → (index_of o).verdict ≡ Refused r → o ≡ refused r
-unfolding index_of
-refused_as (refused s) r e = ap refused (same_refusal e)
-refused_as (said n es) r e = absurd (never (sym e))
+module _ (f l : List ℕ) (index : Index) (e : opening_of (opened f l) ≡ Ok index) where
+  was_said : (n : ℕ) × (es : List Entry) × (opened f l ≡ said n es) × (index ≡ index_of (said n es))
+  was_said = by (opened f l) refl e
+    where
+      by : (o : Reading) → opened f l ≡ o → opening_of o ≡ Ok index → (n : ℕ) × (es : List Entry) × (opened f l ≡ said n es) × (index ≡ index_of (said n es))
+      by (refused r) p h = let z : ◌≡◌ {A = ℕ} 0 1 = cc in absurd (omega arith)
+      by (said n es) p h = (n, es, p, cc)
 
-module _ (f l : List ℕ) (index : Index) (e : index ≡ index_of (opened f l)) where
-  pub opened_refused : {r : Refusal} → index.verdict ≡ Refused r → opened f l ≡ refused r
-  opened_refused v = refused_as (opened f l) _ (sym (ap (λ (i : Index). i.verdict) e) ∙ v)
+  -- it was read, and is what the index holds
+  pub opened_reads : Reads l index
+  unfolding opened
+  opened_reads = record {
+    beside = length (records f);
+    corrections = was_said.0;
+    lines = was_said.1;
+    read = by (in_turn (length_stage l ∷ file_verdict f ∷ [])) was_said.2;
+    holds = was_said.3;
+  }
+    where
+      by : {n : ℕ} {es : List Entry} (x : Verdict) → if_accepted x (read_log l (length (records f))) ≡ said n es → read_log l (length (records f)) ≡ said n es
+      by (Ok _) h = h
+      by (Err r) h = absurd (not_said h)
 
-  module _ (v : index.verdict ≡ Accepted) where
-    was_said : (n : ℕ) × (es : List Entry) × (opened f l ≡ said n es)
-    was_said = verdict_said (opened f l) (sym (ap (λ (i : Index). i.verdict) e) ∙ v)
+  pub opened_said : opened f l ≡ said index.corrections (entries_from index 0 index.count)
+  unfolding was_said opened_reads
+  opened_said = was_said.2 ∙ ap₂ said (sym (corrections_of_lem l index opened_reads)) (sym (lines_of l index opened_reads))
 
-    -- it was read, and is what the index holds
-    pub opened_reads : Reads l index
-    unfolding opened
-    opened_reads = record {
-      beside = length (records f);
-      corrections = was_said.0;
-      lines = was_said.1;
-      read = by (in_turn (length_stage l ∷ file_verdict f ∷ [])) was_said.2;
-      holds = e ∙ ap index_of was_said.2;
-    }
-      where
-        by : {n : ℕ} {es : List Entry} (x : Verdict) → if_accepted x (read_log l (length (records f))) ≡ said n es → read_log l (length (records f)) ≡ said n es
-        by (Ok _) h = h
-        by (Err r) h = absurd (not_said h)
+  pub opened_with : Opens f l index
+  opened_with = (opened_reads, opened_said)
 
-    pub opened_said : opened f l ≡ said index.corrections (entries_from index 0 index.count)
-    unfolding was_said opened_reads
-    opened_said = was_said.2 ∙ ap₂ said (sym (corrections_of_lem l index opened_reads)) (sym (lines_of l index opened_reads))
+  pub opened_few : index.count ≤ 444
+  opened_few = index_few l index opened_reads
 
-    pub opened_with : Opens f l index
-    opened_with = (opened_reads, opened_said)
+  pub opened_within : Within index
+  opened_within = index_within l index opened_reads
 
-    pub pick_opened : (w : List ℕ) {p : Picked} → p ≡ picked_as (pick_from f l w (said index.corrections (entries_from index 0 index.count))) → p ≡ picked_as (pick_of f l w)
-    unfolding pick_of
-    pick_opened w q = q ∙ ap (λ (o : Reading). picked_as (pick_from f l w o)) (sym opened_said)
+  pub opened_corrections : index.corrections ≤ 200
+  opened_corrections = corrections_few l index opened_reads
 
-    pub failing_opened : {x : Failure} → x ≡ failure_as l (carried f l everything index.corrections (entries_from index 0 index.count)) → x ≡ failure_of f l
-    unfolding failure_of
-    failing_opened q = q ∙ ap (λ (o : Reading). failure_as l (outcome_of f l o)) (sym opened_said)
+module _ (f l : List ℕ) {r : Refusal} (e : opened f l ≡ refused r) where
+  pub failing_not_opened : Err (failure_by r) ≡ failure_of f l
+  unfolding failure_of failure_as line_at fault_as
+  failing_not_opened = sym (ap (λ (o : Reading). failure_as l (outcome_of f l o)) e)
 
-    pub reasons_opened : (w : List ℕ) {p : Explained}
-        → p ≡ reasons_as l (settled_from f l w (said index.corrections (entries_from index 0 index.count))) (reasons_from f l w (said index.corrections (entries_from index 0 index.count)))
-        → p ≡ reasons_as l (settled_of f l w) (reasons_of f l w)
-    unfolding settled_of reasons_of
-    reasons_opened w q = q ∙ ap (λ (o : Reading). reasons_as l (settled_from f l w o) (reasons_from f l w o)) (sym opened_said)
-
-  pub pick_not_opened : (w : List ℕ) {r : Refusal} {p : Picked} → index.verdict ≡ Refused r → p ≡ picked_as (refused_by r) → p ≡ picked_as (pick_of f l w)
+  pub pick_not_opened : (ws : List ℕ) → pick_of f l ws ≡ refused_by r
   unfolding pick_of
-  pick_not_opened w v q = q ∙ ap (λ (o : Reading). picked_as (pick_from f l w o)) (sym (opened_refused v))
+  pick_not_opened ws = ap (pick_from f l ws) e
 
-  pub failing_not_opened : {r : Refusal} {x : Failure} → index.verdict ≡ Refused r → x ≡ failure_as l (stopped r no_more) → x ≡ failure_of f l
-  unfolding failure_of
-  failing_not_opened v q = q ∙ ap (λ (o : Reading). failure_as l (outcome_of f l o)) (sym (opened_refused v))
-
-  pub reasons_not_opened : (w : List ℕ) {r : Refusal} {x : Failure} {p : Explained} → index.verdict ≡ Refused r → x ≡ failure_as l (stopped r no_more) → p ≡ reasons_with x []
-      → p ≡ reasons_as l (settled_of f l w) (reasons_of f l w)
-  unfolding settled_of reasons_of
-  reasons_not_opened w v e q =
-      q ∙ ap (λ (y : Failure). reasons_with y []) e ∙ ap (λ (o : Reading). reasons_as l (settled_from f l w o) (reasons_from f l w o)) (sym (opened_refused v))
+  pub reasons_not_opened : (ws : List ℕ) → Err (failure_by r) ≡ reasons_as l (settled_of f l ws) (reasons_of f l ws)
+  unfolding settled_of reasons_of reasons_as line_at fault_as
+  reasons_not_opened ws = sym (ap (λ (o : Reading). reasons_as l (settled_from f l ws o) (reasons_from f l ws o)) e)
 
 -- ---- sets that agree on the corrections of a log
 
@@ -179,13 +167,11 @@ all_marked : (i : ℕ) → i < 200 → marked (replicate 201 1) (1 + i) ≡ true
 unfolding marked
 all_marked i h = ap (λ (b : ℕ). eqb b 1) (get_or-replicate 201 (1 + i) 1 0 (omega arith))
 
--- what is run over an index that was read, and the frozen records
-module _ (f l : List ℕ) (T : Numbers) (index : Index) (r : Reads l index) {s : Sources} (e : s ≡ sources_of f) (x : Ran) (g : x ≡ ran_as (ran_over f l T index s)) where
-  pub run_carried : x ≡ ran_as (carried f l T index.corrections (entries_from index 0 index.count))
-  unfolding carried
-  run_carried =
-      g ∙ ap ran_as (ran_bound true f l T index s (record { records = (own_count f e).1; lines = index_few l index r; within = index_within l index r })
-      ∙ ap (λ (t : Sources). ran f l T 1 (by_correction 1 index.corrections (entries_from index 0 index.count)) (in_use t)) e)
+-- what `map_err` gives, by cases
+pub mapped : {E X : Type 0} (v : Result (Unit {0}) E) (r : Result (Unit {0}) X) (P : E → X → Type 0) {whole : Result (Unit {0}) X}
+    → MatchResult v (λ x. r ≡ Ok x) (λ e. IsErrAnd r (P e)) → (v ≡ Ok tt → Ok tt ≡ whole) → ((e : E) (x : X) → v ≡ Err e → P e x → Err x ≡ whole) → r ≡ whole
+mapped (Ok _) r P m f g = m ∙ f refl
+mapped (Err e) r P m f g = let p = err_from_is_err_and r m in p.1 ∙ g e p.0 refl p.2
 
 ran_verdict : (o : Outcome) → (ran_as o).verdict ≡ outcome_verdict o
 unfolding ran_as
@@ -194,22 +180,37 @@ ran_verdict (reached xs) = refl
 
 -- ---- the whole log
 
-ran_fault : (o : Outcome) → (ran_as o).fault ≡ fault_of o
-unfolding ran_as
-ran_fault (stopped r w) = refl
-ran_fault (reached xs) = refl
+module _ (f l : List ℕ) (index : Index) (e : opening_of (opened f l) ≡ Ok index) {s : Sources} (t : s ≡ sources_of f) (x : Ran)
+    (g : x ≡ ran_as (ran_over f l (marked (replicate 201 1)) index s)) where
+  ran_whole : x ≡ ran_as (outcome_of f l (opened f l))
+  unfolding carried
+  ran_whole =
+      let r = opened_reads f l index e in
+      g ∙ ap ran_as (ran_bound true f l (marked (replicate 201 1)) index s (record { records = (own_count f t).1; lines = index_few l index r; within = index_within l index r })
+      ∙ ap (λ (y : Sources). ran f l (marked (replicate 201 1)) 1 (by_correction 1 index.corrections (entries_from index 0 index.count)) (in_use y)) t
+      ∙ carried_same f l (marked (replicate 201 1)) everything index.corrections (entries_from index 0 index.count) (λ i h. all_marked i (omega (arith, corrections_few l index r)))
+      ∙ ap (outcome_of f l) (sym (opened_said f l index e)))
 
-pub whole_failing : (f l : List ℕ) (index : Index) (r : Reads l index) {s : Sources} → s ≡ sources_of f → (x : Ran) → x ≡ ran_as (ran_over f l (marked (replicate 201 1)) index s)
-    → {line : ℕ} → line ≡ line_at l x.fault.at
-    → record { verdict = x.verdict; line = line; fault = x.fault } ≡ failure_as l (carried f l everything index.corrections (entries_from index 0 index.count))
-unfolding failure_as
-whole_failing f l index r e x g n =
-    let o = carried f l everything index.corrections (entries_from index 0 index.count) in
-    let q : x ≡ ran_as o =
-    run_carried f l (marked (replicate 201 1)) index r e x g
-    ∙ ap ran_as (carried_same f l (marked (replicate 201 1)) everything index.corrections (entries_from index 0 index.count) (λ i h. all_marked i (omega (arith, corrections_few l index r)))) in
-    ap (λ (k : ℕ). record { verdict = x.verdict; line = k; fault = x.fault }) n
-    ∙ ap₂ (failure_with l) (ap (λ (y : Ran). y.verdict) q ∙ ran_verdict o) (ap (λ (y : Ran). y.fault) q ∙ ran_fault o)
+  pub whole_refused : {r : Refusal} → x.verdict ≡ Refused r → {line : ℕ} → line ≡ line_at l x.fault.at
+      → Err (record { refusal = r; line = line; fault = x.fault }) ≡ failure_of f l
+  unfolding failure_of failure_as ran_as
+  whole_refused {r} v n = by (outcome_of f l (opened f l)) ran_whole v n
+    where
+      by : (o : Outcome) → x ≡ ran_as o → x.verdict ≡ Refused r → {line : ℕ} → line ≡ line_at l x.fault.at
+          → Err (record { refusal = r; line = line; fault = x.fault }) ≡ failure_as l o
+      by (stopped q w) p h k =
+          let same : r ≡ q = same_refusal (sym h ∙ ap (λ (y : Ran). y.verdict) p) in
+          let bad : x.fault ≡ fault_as w = ap (λ (y : Ran). y.fault) p in
+          rw (k, same, bad)
+      by (reached xs) p h k = absurd (never (sym h ∙ ap (λ (y : Ran). y.verdict) p))
+
+  pub whole_stands : x.verdict ≡ Accepted → Ok tt ≡ failure_of f l
+  unfolding failure_of failure_as ran_as
+  whole_stands v = by (outcome_of f l (opened f l)) ran_whole v
+    where
+      by : (o : Outcome) → x ≡ ran_as o → x.verdict ≡ Accepted → Ok tt ≡ failure_as l o
+      by (stopped q w) p h = absurd (never (sym (ap (λ (y : Ran). y.verdict) p) ∙ h))
+      by (reached xs) p h = refl
 
 -- ---- the marked corrections alone
 
@@ -233,69 +234,93 @@ module _ (f l : List ℕ) (T : Numbers) (index : Index) (r : Reads l index) {s :
 
 -- ---- what is settled once a file and a log are open
 
-failing_verdict : (l : List ℕ) (o : Outcome) → (failure_as l o).verdict ≡ outcome_verdict o
+outcome_refused : (l : List ℕ) (o : Outcome) {x : Failure} → failure_as l o ≡ Err x → outcome_verdict o ≡ Refused x.refusal
 unfolding failure_as
-failing_verdict l o = refl
+outcome_refused l (stopped r w) {x} e = let same : failure_with l r (fault_as w) ≡ x = cc in ap (λ (y : Failure). Refused y.refusal) same
+outcome_refused l (reached xs) e = let z : ◌≡◌ {A = ℕ} 0 1 = cc in absurd (omega arith)
 
-pub refused_verdict : (l : List ℕ) (w : Wrong) (r : Refusal) {x : Failure} → x ≡ failure_as l (stopped r w) → x.verdict ≡ Refused r
-refused_verdict l w r e = ap (λ (y : Failure). y.verdict) e ∙ failing_verdict l (stopped r w)
+outcome_accepted : (l : List ℕ) (o : Outcome) → failure_as l o ≡ Ok tt → outcome_verdict o ≡ Accepted
+unfolding failure_as
+outcome_accepted l (stopped r w) e = let z : ◌≡◌ {A = ℕ} 0 1 = cc in absurd (omega arith)
+outcome_accepted l (reached xs) e = refl
 
-module _ (f l ws : List ℕ) (n : ℕ) (es : List Entry) {v : Verdict} (q : v ≡ wanted_stage n 1 ws) where
-  pub settled_wanted : {r : Refusal} {x : Failure} → v ≡ Refused r → x ≡ failure_as l (stopped r no_more) → x ≡ failure_as l (settled f l ws n es)
-  unfolding settled
-  settled_wanted e z = z ∙ rw (sym q ∙ e)
+module _ (f l ws : List ℕ) (n : ℕ) (es : List Entry) (q : opened f l ≡ said n es) where
+  -- 12 for a wanted number; the failure of the whole log; or none
+  pub settled_wanted : {r : Refusal} → wanted_stage n 1 ws ≡ Refused r → failure_as l (settled f l ws n es) ≡ Err (failure_by r)
+  unfolding settled failure_as line_at fault_as
+  settled_wanted e = rw e
 
-  pub settled_log : {x : Failure} → v ≡ Accepted → x ≡ failure_as l (carried f l everything n es) → x ≡ failure_as l (settled f l ws n es)
-  unfolding settled
-  settled_log e z = z ∙ rw (sym q ∙ e)
+  pub settled_log : {x : Result (Unit {0}) Failure} → wanted_stage n 1 ws ≡ Accepted → x ≡ failure_of f l → failure_as l (settled f l ws n es) ≡ x
+  unfolding settled failure_of
+  settled_log e z = sym (z ∙ ap (λ (o : Reading). failure_as l (outcome_of f l o)) q ∙ rw e)
 
--- A refusal is that of the pick, and leaves no reasons; otherwise the pick is what the corrections taken come to.
-module _ (f l ws : List ℕ) (n : ℕ) (es : List Entry) {x : Failure} (s : x ≡ failure_as l (settled f l ws n es)) where
-  said_verdict : outcome_verdict (settled f l ws n es) ≡ x.verdict
-  said_verdict = sym (failing_verdict l (settled f l ws n es)) ∙ ap (λ (y : Failure). y.verdict) (sym s)
-
-  pub settled_refused : {r : Refusal} → x.verdict ≡ Refused r → refused_by r ≡ pick_from f l ws (said n es)
-  unfolding settled
-  settled_refused {r} e = by (wanted_stage n 1 ws) (carried f l everything n es) (said_verdict ∙ e)
+  -- A refusal is that of the pick, and there are no reasons; otherwise the pick is what the corrections taken come to.
+  pub settled_refused : {x : Failure} → failure_as l (settled f l ws n es) ≡ Err x → pick_of f l ws ≡ refused_by x.refusal
+  unfolding settled pick_of
+  settled_refused {x} e = ap (pick_from f l ws) q ∙ by (wanted_stage n 1 ws) (carried f l everything n es) (outcome_refused l (settled f l ws n es) e)
     where
-      by : (v : Verdict) (o : Outcome) → outcome_verdict (judged_then v o) ≡ Refused r → refused_by r ≡ judged_first v (ran_first o (λ _. pick_by f l (taken_of f l n es ws) n es))
-      by (Ok _) (stopped q w) h = ap refused_by (sym (same_refusal h))
+      by : (v : Verdict) (o : Outcome) → outcome_verdict (judged_then v o) ≡ Refused x.refusal → judged_first v (ran_first o (λ _. pick_by f l (taken_of f l n es ws) n es)) ≡ refused_by x.refusal
+      by (Ok _) (stopped r w) h = ap refused_by (same_refusal h)
       by (Ok _) (reached xs) h = absurd (never (sym h))
-      by (Err q) o h = ap refused_by (sym (same_refusal h))
+      by (Err r) o h = ap refused_by (same_refusal h)
 
-  pub settled_stands : x.verdict ≡ Accepted → pick_by f l (taken_of f l n es ws) n es ≡ pick_from f l ws (said n es)
-  unfolding settled
-  settled_stands e = by (wanted_stage n 1 ws) (carried f l everything n es) (said_verdict ∙ e)
-    where
-      by : (v : Verdict) (o : Outcome) → outcome_verdict (judged_then v o) ≡ Accepted
-          → pick_by f l (taken_of f l n es ws) n es ≡ judged_first v (ran_first o (λ _. pick_by f l (taken_of f l n es ws) n es))
-      by (Ok _) (stopped q w) h = absurd (never h)
-      by (Ok _) (reached xs) h = refl
-      by (Err q) o h = absurd (never h)
+  no_reason : (o : Outcome) {x : Failure} → failure_as l o ≡ Err x → Err x ≡ reasons_as l o (unless_stopped f l o (reasons_by f l n es ws))
+  unfolding failure_as reasons_as
+  no_reason (stopped r w) {x} h = let same : x ≡ failure_with l r (fault_as w) = cc in ap Err same
+  no_reason (reached xs) h = let z : ◌≡◌ {A = ℕ} 0 1 = cc in absurd (omega arith)
 
-  -- and the whole log has run
-  pub all_run_lem : x.verdict ≡ Accepted → (ys : List ℕ) × (carried f l everything n es ≡ reached ys)
-  unfolding settled
-  all_run_lem e = by (wanted_stage n 1 ws) (carried f l everything n es) (said_verdict ∙ e)
-    where
-      by : (v : Verdict) (o : Outcome) → outcome_verdict (judged_then v o) ≡ Accepted → (ys : List ℕ) × (o ≡ reached ys)
-      by (Ok _) (stopped q w) h = absurd (never h)
-      by (Ok _) (reached xs) h = (xs, refl)
-      by (Err q) o h = absurd (never h)
+  some_reasons : (o : Outcome) → failure_as l o ≡ Ok tt → Ok (reasons_with (reasons_by f l n es ws)) ≡ reasons_as l o (unless_stopped f l o (reasons_by f l n es ws))
+  unfolding failure_as reasons_as
+  some_reasons (stopped r w) h = let z : ◌≡◌ {A = ℕ} 0 1 = cc in absurd (omega arith)
+  some_reasons (reached xs) h = refl
 
-  pub no_reason_lem : {r : Refusal} → x.verdict ≡ Refused r → [] ≡ reasons_from f l ws (said n es)
-  no_reason_lem e = by (settled f l ws n es) (said_verdict ∙ e)
-    where
-      by : {r : Refusal} (o : Outcome) → outcome_verdict o ≡ Refused r → [] ≡ unless_stopped f l o (reasons_by f l n es ws)
-      by (stopped q w) h = refl
-      by (reached xs) h = absurd (never (sym h))
+  pub reasons_refused : {x : Failure} → failure_as l (settled f l ws n es) ≡ Err x → Err x ≡ reasons_as l (settled_of f l ws) (reasons_of f l ws)
+  unfolding settled_of reasons_of
+  reasons_refused e = no_reason (settled f l ws n es) e ∙ ap (λ (o : Reading). reasons_as l (settled_from f l ws o) (reasons_from f l ws o)) (sym q)
 
-  pub all_reasons : x.verdict ≡ Accepted → reasons_by f l n es ws ≡ reasons_from f l ws (said n es)
-  all_reasons e = by (settled f l ws n es) (said_verdict ∙ e)
-    where
-      by : (o : Outcome) → outcome_verdict o ≡ Accepted → reasons_by f l n es ws ≡ unless_stopped f l o (reasons_by f l n es ws)
-      by (stopped q w) h = absurd (never h)
-      by (reached xs) h = refl
+  module _ (e : failure_as l (settled f l ws n es) ≡ Ok tt) where
+    pub settled_stands : pick_by f l (taken_of f l n es ws) n es ≡ pick_of f l ws
+    unfolding settled pick_of
+    settled_stands = by (wanted_stage n 1 ws) (carried f l everything n es) (outcome_accepted l (settled f l ws n es) e) ∙ ap (pick_from f l ws) (sym q)
+      where
+        by : (v : Verdict) (o : Outcome) → outcome_verdict (judged_then v o) ≡ Accepted
+            → pick_by f l (taken_of f l n es ws) n es ≡ judged_first v (ran_first o (λ _. pick_by f l (taken_of f l n es ws) n es))
+        by (Ok _) (stopped r w) h = absurd (never h)
+        by (Ok _) (reached xs) h = refl
+        by (Err r) o h = absurd (never h)
+
+    -- and the whole log has run
+    pub all_run_lem : (ys : List ℕ) × (carried f l everything n es ≡ reached ys)
+    unfolding settled
+    all_run_lem = by (wanted_stage n 1 ws) (carried f l everything n es) (outcome_accepted l (settled f l ws n es) e)
+      where
+        by : (v : Verdict) (o : Outcome) → outcome_verdict (judged_then v o) ≡ Accepted → (ys : List ℕ) × (o ≡ reached ys)
+        by (Ok _) (stopped r w) h = absurd (never h)
+        by (Ok _) (reached xs) h = (xs, refl)
+        by (Err r) o h = absurd (never h)
+
+    pub all_reasons : Ok (reasons_with (reasons_by f l n es ws)) ≡ reasons_as l (settled_of f l ws) (reasons_of f l ws)
+    unfolding settled_of reasons_of
+    all_reasons = some_reasons (settled f l ws n es) e ∙ ap (λ (o : Reading). reasons_as l (settled_from f l ws o) (reasons_from f l ws o)) (sym q)
+
+-- what `choose` answers, once its failure is but the refusal
+module _ (f l ws : List ℕ) (index : Index) (q : opened f l ≡ said index.corrections (entries_from index 0 index.count)) (P : Failure → Refusal → Type 0) (r : Result Chosen Refusal) where
+  abbrev Answered : Result Chosen Failure → Type 0
+  Answered v =
+      MatchResult v (Chooses f l index ws) (λ x. failure_as l (settled f l ws index.corrections (entries_from index 0 index.count)) ≡ Err x)
+      × MatchResult v (λ x. r ≡ Ok x) (λ e. IsErrAnd r (P e))
+
+  pub chosen_stands : (v : Result Chosen Failure) → Answered v → {c : Chosen} → r ≡ Ok c → Chooses f l index ws c
+  chosen_stands (Ok d) (t, h) {c} e = let same : d ≡ c = cc in subst (Chooses f l index ws) same t
+  chosen_stands (Err x) (t, h) e = let p = err_from_is_err_and r h in let s : r ≡ Err p.0 = p.1 in let z : ◌≡◌ {A = ℕ} 0 1 = cc in absurd (omega arith)
+
+  pub chosen_refused : (v : Result Chosen Failure) → Answered v → {y : Refusal} → r ≡ Err y → ((x : Failure) → P x y → y ≡ x.refusal) → pick_of f l ws ≡ refused_by y
+  chosen_refused (Ok d) (t, h) e g = let z : ◌≡◌ {A = ℕ} 0 1 = cc in absurd (omega arith)
+  chosen_refused (Err x) (t, h) {y} e g =
+      let p = err_from_is_err_and r h in
+      let s : r ≡ Err p.0 = p.1 in
+      let same : p.0 ≡ y = cc in
+      settled_refused f l ws index.corrections (entries_from index 0 index.count) q t ∙ ap refused_by (sym (g x (subst (P x) same p.2)))
 
 -- what is marked is taken
 pub marks_taken : (f l ws marks : List ℕ) (index : Index) (r : Reads l index) {relied : List ℕ} → wanted_stage index.corrections 1 ws ≡ Accepted

@@ -1,5 +1,8 @@
 -- Laws of reasons as the code finds them, and that they are those of the definition.
 -- Assumes nothing.
+use Rattle.std.specs.Prelude.{Some, None, unwrap_or}
+use Rattle.std.specs.Option.{UnwrapsOrElse}
+use Rattle.std.specs.Prelude as std
 use mathlib.Core.Path.{◌≡◌, refl, sym, ap, ap₂, subst, ◌∙◌}
 use mathlib.Core.Bool.{Bool, true, false, cond, ◌&&◌, ◌||◌}
 use mathlib.Core.List.{List, [], ◌∷◌, map}
@@ -24,9 +27,8 @@ use Rattle.applying.specs.Apply.{source_of}
 use Rattle.applying.specs.Procedures.{procedures}
 use Rattle.applying.specs.Run.{marked}
 use Rattle.selection.specs.Pick.{wants, members_from, members_as, taken_of}
-use Rattle.selection.specs.Reasons.{Reason, relies_on, first_relying, reason_of, reasons_by, naming_as, relying_of, relying_source, reasons_with, Asked, named_from, named_unless, named_with}
+use Rattle.selection.specs.Reasons.{Reason, relies_on, first_relying, reason_of, reasons_by, no_naming, naming_as, relying_of, relying_source, reasons_with, Asked, named_from, named_unless, named_with}
 use Rattle.selection.specs.declared.Explained.{Explained}
-use Rattle.selection.specs.declared.Failure.{Failure}
 use Rattle.selection.specs.declared.carry.Members.{Members}
 use Rattle.selection.specs.declared.explaining.Naming.{Naming}
 use Rattle.selection.proofs.GroupLaws.{ByCorrection}
@@ -81,30 +83,35 @@ module _ (index : Index) (relied marks : List ℕ) (p : ℕ) where
   pub named_start : named_from index relied marks p 0 index.count ≡ named_from index relied marks p 0 (index.count - 0)
   named_start = rw sub-zero
 
-  module _ (count k : ℕ) {whole : Naming} (w : whole ≡ named_from index relied marks p k (count - k)) where
-    pub named_end : count ≤ k → record { relying = 0; source = 0 } ≡ whole
+  module _ (count k : ℕ) {whole : std.Option Naming} (w : whole ≡ named_from index relied marks p k (count - k)) where
+    pub named_end : count ≤ k → None ≡ whole
     unfolding named_from
     named_end h = let z : count - k ≡ 0 = omega arith in sym (w ∙ rw z)
 
     module _ (h : k < count) {b : Bool} (m : b ≡ marked marks (get_or index.correction k 0)) where
-      turn : whole ≡ cond (b && eqb (get_or relied k 0) p) (record { relying = get_or index.correction k 0; source = log_source (get_or index.at k 0) }) (named_from index relied marks p (k + 1) (count - (k + 1)))
+      turn : whole ≡ cond (b && eqb (get_or relied k 0) p) (Some (record { relying = get_or index.correction k 0; source = log_source (get_or index.at k 0) })) (named_from index relied marks p (k + 1) (count - (k + 1)))
       unfolding named_from
       turn = w ∙ rw (one_less count k h, m)
 
-      pub named_found : (b && eqb (get_or relied k 0) p) ≡ true → {s : ℕ} → s ≡ log_source (get_or index.at k 0) → record { relying = get_or index.correction k 0; source = s } ≡ whole
-      named_found t e = ap (λ (x : ℕ). record { relying = get_or index.correction k 0; source = x }) e ∙ sym (turn ∙ rw t)
+      pub named_found : (b && eqb (get_or relied k 0) p) ≡ true → {s : ℕ} → s ≡ log_source (get_or index.at k 0) → Some (record { relying = get_or index.correction k 0; source = s }) ≡ whole
+      named_found t e = ap (λ (x : ℕ). Some (record { relying = get_or index.correction k 0; source = x })) e ∙ sym (turn ∙ rw t)
 
       pub named_next : (b && eqb (get_or relied k 0) p) ≡ false → whole ≡ named_from index relied marks p (k + 1) (count - (k + 1))
       named_next t = turn ∙ rw t
 
--- ---- nothing for a number that is asked for
+-- ---- none for a number that is asked for
 
-module _ (x : Naming) {b t : Bool} (m : b ≡ t) where
-  pub asked : b ≡ true → record { relying = 0; source = 0 } ≡ cond t (record { relying = 0; source = 0 }) x
+module _ (x : std.Option Naming) {b t : Bool} (m : b ≡ t) where
+  pub asked : b ≡ true → None ≡ cond t None x
   asked e = rw (sym m ∙ e)
 
-  pub not_asked : b ≡ false → {y : Naming} → y ≡ x → y ≡ cond t (record { relying = 0; source = 0 }) x
+  pub not_asked : b ≡ false → {y : std.Option Naming} → y ≡ x → y ≡ cond t None x
   not_asked e q = rw (sym m ∙ e) q
+
+-- zeros where there is none
+pub or_default : (o : std.Option Naming) (P : Naming → Type 0) (x : Naming) → UnwrapsOrElse o P x → (P x → x ≡ no_naming) → x ≡ unwrap_or o no_naming
+or_default None P x h f = f h
+or_default (Some y) P x h f = h
 
 -- ---- a number for each of some others, from the one at i on
 
@@ -126,11 +133,14 @@ module _ (index : Index) (relied marks asked : List ℕ) (m : Members) where
   abbrev ns : List ℕ
   ns = take m.count m.at
 
+  abbrev named : ℕ → Naming
+  named p = unwrap_or (named_unless index relied marks asked p) no_naming
+
   abbrev relying_for : ℕ → ℕ
-  relying_for p = (named_unless index relied marks asked p).relying
+  relying_for p = (named p).relying
 
   abbrev source_for : ℕ → ℕ
-  source_for p = (named_unless index relied marks asked p).source
+  source_for p = (named p).source
 
   -- what is found of all of them, and what is left to be put behind what was found
   pub record Filled (relying source : List ℕ) (i : ℕ) : Type 0 where
@@ -144,21 +154,20 @@ module _ (index : Index) (relied marks asked : List ℕ) (m : Members) where
     pub filled_start : Filled (replicate 200 0) (replicate 200 0) 0
     filled_start = record { those = fill_start relying_for ns (omega (arith, many)); these = fill_start source_for ns (omega (arith, many)) }
 
-    module _ (relying source : List ℕ) (i : ℕ) (f : Filled relying source i) where
-      pub filled_next : i < m.count → (x : Naming) → x ≡ named_unless index relied marks asked (get_or m.at i 0) → Filled (set relying i x.relying) (set source i x.source) (i + 1)
-      filled_next h x e =
-          let p : x ≡ named_unless index relied marks asked (get_or ns i 0) = e ∙ ap (named_unless index relied marks asked) (sym (get_or-take m.count m.at i 0 h)) in
-          record {
-            those = fill_next relying_for ns i relying f.those (omega (arith, many)) (ap (λ (y : Naming). y.relying) p);
-            these = fill_next source_for ns i source f.these (omega (arith, many)) (ap (λ (y : Naming). y.source) p);
-          }
+    pub filled_next : (relying source : List ℕ) (i : ℕ) → Filled relying source i → i < m.count → (x : Naming) → x ≡ named (get_or m.at i 0)
+        → Filled (set relying i x.relying) (set source i x.source) (i + 1)
+    filled_next relying source i f h x e =
+        let p : x ≡ named (get_or ns i 0) = e ∙ ap named (sym (get_or-take m.count m.at i 0 h)) in
+        record {
+          those = fill_next relying_for ns i relying f.those (omega (arith, many)) (ap (λ (y : Naming). y.relying) p);
+          these = fill_next source_for ns i source f.these (omega (arith, many)) (ap (λ (y : Naming). y.source) p);
+        }
 
-      pub filled_end : m.count ≤ i → (failure : Failure)
-          → record { failure = failure; count = m.count; taken = m.at; relying = relying; source = source } ≡ named_with failure index relied marks asked m
-      unfolding named_with
-      filled_end h failure =
-          ap₂ (λ (x y : List ℕ). record { failure = failure; count = m.count; taken = m.at; relying = x; source = y })
-          (fill_end relying_for ns i relying f.those (omega (arith, many))) (fill_end source_for ns i source f.these (omega (arith, many)))
+    pub filled_end : (x : Explained) → x.count ≡ m.count → x.taken ≡ m.at → (i : ℕ) → Filled x.relying x.source i → m.count ≤ i
+        → x ≡ named_with index relied marks asked m
+    unfolding named_with
+    filled_end x c t i f h =
+        rw (c, t, fill_end relying_for ns i x.relying f.those (omega (arith, many)), fill_end source_for ns i x.source f.these (omega (arith, many)))
 
 -- ---- the reasons of the definition
 
@@ -189,9 +198,9 @@ module _ (f l : List ℕ) (n : ℕ) (es : List Entry) (b : ByCorrection n es) (w
       let below : k < length es = omega arith in
       let s : suc k ≡ k + 1 = omega arith in
       let d : drop k es ≡ get_or es k no_line ∷ drop (k + 1) es = drop-cons es k no_line below ∙ ap (λ (j : ℕ). get_or es k no_line ∷ drop j es) s in
-      let here : record { relying = get_or (index f l n es b).correction k 0; source = log_source (get_or (index f l n es b).at k 0) } ≡ naming_as (some (get_or es k no_line)) =
-      ap (λ (e : Entry). record { relying = e.correction; source = source_of e }) (entry_at_lem n es k) in
-      ap₂ (λ (x : Bool) (y : Naming). cond x y (named_from (index f l n es b) (relied f l n es b) marks p (k + 1) m)) (same_test p k below) here
+      let here : Some (record { relying = get_or (index f l n es b).correction k 0; source = log_source (get_or (index f l n es b).at k 0) }) ≡ naming_as (some (get_or es k no_line)) =
+      ap (λ (e : Entry). Some (record { relying = e.correction; source = source_of e })) (entry_at_lem n es k) in
+      ap₂ (λ (x : Bool) (y : std.Option Naming). cond x y (named_from (index f l n es b) (relied f l n es b) marks p (k + 1) m)) (same_test p k below) here
       ∙ ap (cond (relies_on f l T (L f l n es b) p (get_or es k no_line)) (naming_as (some (get_or es k no_line)))) (named_first p (k + 1) m (omega arith))
       ∙ either (relies_on f l T (L f l n es b) p (get_or es k no_line)) (get_or es k no_line) (first_relying f l T (L f l n es b) p (drop (k + 1) es))
       ∙ ap (λ (xs : List Entry). naming_as (first_relying f l T (L f l n es b) p xs)) (sym d)
@@ -204,10 +213,10 @@ module _ (f l : List ℕ) (n : ℕ) (es : List Entry) (b : ByCorrection n es) (w
   same_reason : (p : ℕ) → p < 201 → named_unless (index f l n es b) (relied f l n es b) marks asked p ≡ naming_as (reason_of f l n es ws p).line
   unfolding reason_of
   same_reason p h =
-      ap₂ (λ (x : Bool) (y : Naming). cond x (naming_as none) y) (a p h) (ap (named_from (index f l n es b) (relied f l n es b) marks p 0) (count_lines f l n es b) ∙ named_first p 0 (length es) (omega arith))
+      ap₂ (λ (x : Bool) (y : std.Option Naming). cond x None y) (a p h) (ap (named_from (index f l n es b) (relied f l n es b) marks p 0) (count_lines f l n es b) ∙ named_first p 0 (length es) (omega arith))
       ∙ either (wants ws p) (first_relying f l T (L f l n es b) p es)
     where
-      either : (x : Bool) (o : Option Entry) → cond x (naming_as none) (naming_as o) ≡ naming_as (cond x none o)
+      either : (x : Bool) (o : Option Entry) → cond x None (naming_as o) ≡ naming_as (cond x none o)
       either true o = refl
       either false o = refl
 
@@ -216,10 +225,10 @@ module _ (f l : List ℕ) (n : ℕ) (es : List Entry) (b : ByCorrection n es) (w
   over g h [] e q = refl
   over g h (p ∷ ps) e q = ap₂ (λ (x : ℕ) (xs : List ℕ). x ∷ xs) (q p (omega (arith, e.0.1, b.few))) (over g h ps e.1 q)
 
-  pub named_reasons : (failure : Failure) (m : Members) → m ≡ members_as (members_from T 1 n)
-      → named_with failure (index f l n es b) (relied f l n es b) marks asked m ≡ reasons_with failure (reasons_by f l n es ws)
+  pub named_reasons : (m : Members) → m ≡ members_as (members_from T 1 n)
+      → named_with (index f l n es b) (relied f l n es b) marks asked m ≡ reasons_with (reasons_by f l n es ws)
   unfolding named_with reasons_with reasons_by members_as reason_of
-  named_reasons failure m e =
+  named_reasons m e =
       let ps = members_from T 1 n in
       let w = members_are T 1 n in
       let out : take m.count m.at ≡ ps = ap (λ (x : Members). take x.count x.at) e ∙ take_at ps _ (length ps) refl in
@@ -227,11 +236,11 @@ module _ (f l : List ℕ) (n : ℕ) (es : List Entry) (b : ByCorrection n es) (w
       let fills : (g : ℕ → ℕ) (h : Reason → ℕ) → ((p : ℕ) → p < 201 → g p ≡ h (reason_of f l n es ws p)) → padded 200 (map g (take m.count m.at)) ≡ padded 200 (map h (map (reason_of f l n es ws) ps)) =
       λ g h q. ap (λ (xs : List ℕ). padded 200 (map g xs)) out ∙ ap (padded 200) (over g h ps w q) in
       parts (ap (λ (x : Members). x.count) e ∙ sym (length-map ps (reason_of f l n es ws))) (ap (λ (x : Members). x.at) e ∙ ap (padded 200) own)
-      (fills _ relying_of (λ p h. ap (λ (x : Naming). x.relying) (same_reason p h)))
-      (fills _ relying_source (λ p h. ap (λ (x : Naming). x.source) (same_reason p h)))
+      (fills _ relying_of (λ p h. ap (λ (x : std.Option Naming). (unwrap_or x no_naming).relying) (same_reason p h)))
+      (fills _ relying_source (λ p h. ap (λ (x : std.Option Naming). (unwrap_or x no_naming).source) (same_reason p h)))
     where
       parts : {c d : ℕ} {xs ys zs us vs ts : List ℕ} → c ≡ d → xs ≡ us → ys ≡ vs → zs ≡ ts
-          → ◌≡◌ {A = Explained} (record { failure = failure; count = c; taken = xs; relying = ys; source = zs }) (record { failure = failure; count = d; taken = us; relying = vs; source = ts })
+          → ◌≡◌ {A = Explained} (record { count = c; taken = xs; relying = ys; source = zs }) (record { count = d; taken = us; relying = vs; source = ts })
       parts a b c d = rw (a, b, c, d)
 
       map-id : (xs : List ℕ) → map (λ (x : ℕ). x) xs ≡ xs

@@ -1,33 +1,24 @@
 -- What marking keeps true from one line of the index to the next, and the laws of each step of it and of the tables that it goes by.
 -- Assumes nothing.
-use mathlib.Core.Path.{◌≡◌, refl, sym, ap, subst, ◌∙◌}
-use mathlib.Core.Bool.{Bool, true, false, cond, ◌&&◌}
+use mathlib.Core.Path.{◌≡◌, refl, sym, ap, ap₂, subst, ◌∙◌}
+use mathlib.Core.Bool.{Bool, true, false, cond, ◌&&◌, false≢true}
 use mathlib.Core.Logic.{◌⊎◌, inl, inr, ⊎_elim}
 use mathlib.Core.List.{List}
-use Prim.Native.Nat.{ℕ, ◌+◌, ◌-◌, ◌≤◌, ◌<◌}
+use Prim.Native.Nat.{ℕ, zero, suc, ◌+◌, ◌-◌, ◌≤◌, ◌<◌}
 use native.Mathlib.Omega.{arith}
-use borrow.Author.Tests.{eqb-true, eqb-false, ltb-true, ltb-false}
+use borrow.Author.Tests.{eqb-true, eqb-false, eq-eqb, ltb-true, ltb-false, lt-ltb}
 use borrow.Author.Count.{below_more}
 use lib.Dec.{eqb, ltb}
 use lib.ListN.{length, get_or, set, replicate, length-set, length-replicate, get_or-eq_default}
 use lib.Seq.{get_or-set_same, get_or-set_other}
-use Rattle.slices.proofs.Cases.{split, and_left, and_right}
+use Rattle.slices.proofs.Cases.{split, and_left, and_right, both}
 use Rattle.slices.proofs.PartLaws.{zero_at}
-use Rattle.selection.specs.Reliance.{named_by, NoneBefore, NoneBehind, Relies, Reach, here, step, In, ClosedMarks, Spread, Marked, Taken}
+use Rattle.selection.specs.declared.relied.Span.{Span}
+use Rattle.selection.specs.Reliance.{named_by, Spans, no_span, Relies, Reach, here, step, In, ClosedMarks, Spread, Marked, Taken}
 
 -- ---- what a line names
 
 module _ (of relied : List ℕ) (c k : ℕ) where
-  name_if : {t : Bool} (b : Bool) → t ≡ b → t ≡ (eqb (get_or of k 0) c && ltb (get_or relied k 0) c) → cond b (get_or relied k 0) 0 ≡ named_by of relied c k
-  unfolding named_by
-  name_if b e q = rw (sym q ∙ e)
-
-  pub names : {t : Bool} → t ≡ (eqb (get_or of k 0) c && ltb (get_or relied k 0) c) → t ≡ true → get_or relied k 0 ≡ named_by of relied c k
-  names q e = name_if true e q
-
-  pub names_not : {t : Bool} → t ≡ (eqb (get_or of k 0) c && ltb (get_or relied k 0) c) → t ≡ false → 0 ≡ named_by of relied c k
-  names_not q e = name_if false e q
-
   -- a line that names something is a line of c, and what it names is smaller
   pub named_by_lem : 0 < named_by of relied c k → (get_or of k 0 ≡ c) × (get_or relied k 0 ≡ named_by of relied c k) × (named_by of relied c k < c)
   unfolding named_by
@@ -39,21 +30,40 @@ module _ (of relied : List ℕ) (c k : ℕ) where
       by false e z = absurd (omega arith)
 
   -- a place past the lines names nothing
-  pub names_none : length of ≤ k → 0 ≡ named_by of relied c k
+  pub names_none : length of ≤ k → named_by of relied c k ≡ 0
   names_none h = split (eqb (named_by of relied c k) 0)
-      (λ t. sym (eqb-true (named_by of relied c k) 0 t))
+      (λ t. eqb-true (named_by of relied c k) 0 t)
       (λ t.
       let z : 0 < named_by of relied c k = omega (arith, eqb-false (named_by of relied c k) 0 t) in
       let n = named_by_lem z in
       absurd (omega (arith, n.0, n.2, get_or-eq_default of 0 h)))
 
-  pub names_nothing : length relied ≤ k → 0 ≡ named_by of relied c k
+  pub names_nothing : length relied ≤ k → named_by of relied c k ≡ 0
   names_nothing h = split (eqb (named_by of relied c k) 0)
-      (λ t. sym (eqb-true (named_by of relied c k) 0 t))
+      (λ t. eqb-true (named_by of relied c k) 0 t)
       (λ t.
       let z : 0 < named_by of relied c k = omega (arith, eqb-false (named_by of relied c k) 0 t) in
       let n = named_by_lem z in
       absurd (omega (arith, n.1, get_or-eq_default relied 0 h)))
+
+module _ (of relied : List ℕ) (c k : ℕ) {owner p : ℕ} (o : owner ≡ get_or of k 0) (r : p ≡ get_or relied k 0) where
+  pub names : (eqb owner c && ltb p c && ltb 0 p) ≡ true → (0 < p) × (p ≡ named_by of relied c k)
+  unfolding named_by
+  names t =
+      let own : (eqb (get_or of k 0) c && ltb (get_or relied k 0) c) ≡ true =
+      sym (ap₂ (λ (x y : ℕ). eqb x c && ltb y c) o r) ∙ and_left (eqb owner c && ltb p c) (ltb 0 p) t in
+      (ltb-true 0 p (and_right (eqb owner c && ltb p c) (ltb 0 p) t), rw own r)
+
+  pub names_not : (eqb owner c && ltb p c && ltb 0 p) ≡ false → named_by of relied c k ≡ 0
+  names_not f =
+      split (eqb (named_by of relied c k) 0)
+      (λ t. eqb-true (named_by of relied c k) 0 t)
+      (λ t.
+      let z : 0 < named_by of relied c k = omega (arith, eqb-false (named_by of relied c k) 0 t) in
+      let n = named_by_lem of relied c k z in
+      let all : (eqb owner c && ltb p c && ltb 0 p) ≡ true =
+      both (both (eq-eqb owner c (o ∙ n.0)) (lt-ltb p c (omega (arith, r, n.1, n.2)))) (lt-ltb 0 p (omega (arith, r, n.1))) in
+      absurd (false≢true (sym f ∙ all)))
 
 -- the number falls at each call
 pub named_falls : (of relied : List ℕ) (c k p : ℕ) → p ≡ named_by of relied c k → 0 < p → p < c
@@ -73,13 +83,12 @@ module _ (of relied : List ℕ) (c : ℕ) where
   within_lines j z =
       split (ltb j (length of)) (ltb-true j (length of)) (λ t. absurd (omega (arith, names_none of relied c j (ltb-false j (length of) t))))
 
-  pub lines_from : (firsts : List ℕ) → NoneBefore of firsts → c < 201 → LinesFrom (get_or firsts c 0)
-  unfolding NoneBefore
-  lines_from firsts n h j z = let o = (named_by_lem of relied c j z).0 in subst (λ (d : ℕ). get_or firsts d 0 ≤ j) o (n j (within_lines j z) (omega (arith, o)))
+  module _ (spans : List Span) (n : Spans of spans) (h : c < 201) where
+    pub lines_from : LinesFrom (get_or spans c no_span).first
+    lines_from j z = let o = (named_by_lem of relied c j z).0 in subst (λ (d : ℕ). (get_or spans d no_span).first ≤ j) o (n j (within_lines j z) (omega (arith, o))).0
 
-  pub lines_before : (ends : List ℕ) → NoneBehind of ends → c < 201 → LinesBefore (get_or ends c 0)
-  unfolding NoneBehind
-  lines_before ends n h j z = let o = (named_by_lem of relied c j z).0 in subst (λ (d : ℕ). j < get_or ends d 0) o (n j (within_lines j z) (omega (arith, o)))
+    pub lines_before : LinesBefore (get_or spans c no_span).end
+    lines_before j z = let o = (named_by_lem of relied c j z).0 in subst (λ (d : ℕ). j < (get_or spans d no_span).end) o (n j (within_lines j z) (omega (arith, o))).1
 
 -- ---- the lines of a correction, one after the other
 
@@ -107,13 +116,13 @@ module _ (of relied a : List ℕ) (c : ℕ) where
   round_start k f = record { spread = spread_none; row = λ j h z. absurd (omega (arith, f j z)) }
 
   -- a line that names nothing
-  pub round_skip : (b : List ℕ) (k p : ℕ) → Round of relied a b c k → p ≡ named_by of relied c (k - 1) → p ≤ 0 → Round of relied a b c (k - 1)
-  round_skip b k p r e h = record { spread = r.spread; row = from_less _ k r.row (λ z. absurd (omega arith)) }
+  pub round_skip : (b : List ℕ) (k : ℕ) → Round of relied a b c k → named_by of relied c (k - 1) ≡ 0 → Round of relied a b c (k - 1)
+  round_skip b k r e = record { spread = r.spread; row = from_less _ k r.row (λ z. absurd (omega (arith, e))) }
 
   -- a line that names p, which is marked
-  pub round_call : (b b' : List ℕ) (k p : ℕ) → Round of relied a b c k → p ≡ named_by of relied c (k - 1) → 0 < p → c < length a → Marked of relied b b' p
+  pub round_call : (b b' : List ℕ) (k p : ℕ) → Round of relied a b c k → (0 < p) × (p ≡ named_by of relied c (k - 1)) → c < length a → Marked of relied b b' p
       → Round of relied a b' c (k - 1)
-  round_call b b' k p r e z hl m =
+  round_call b b' k p r (z, e) hl m =
       let rel : Relies of relied c p = record { line = k - 1; named = e; some = z } in
       let lo : p < c = named_falls of relied c (k - 1) p e z in
       let s = m.spread in
@@ -162,77 +171,66 @@ module _ (of relied a : List ℕ) (c : ℕ) where
         has = λ _ _. has_set b lb;
       }
 
--- ---- where the lines of each correction begin and end
-
-one_or_not : {A : Type 0} (j k : ℕ) → ((j ≡ k → ⊥) → A) → (j ≡ k) ⊎ A
-one_or_not j k f = ⊎_elim inl (λ (n : j ≡ k → ⊥). inr (f n)) (same_or_not j k)
-
--- a table has a number for each correction, which stands in a relation to each line of that correction that was looked at
-pub record Tabled (of table : List ℕ) (Seen : ℕ → Type 0) (P : ℕ → ℕ → Type 0) : Type 0 where
-  pub long : length table ≡ 201
-  pub row : (j : ℕ) → Seen j → get_or of j 0 < 201 → P j (get_or table (get_or of j 0) 0)
-
--- one line more is looked at
-module _ (of table : List ℕ) (Seen More : ℕ → Type 0) (P : ℕ → ℕ → Type 0) (t : Tabled of table Seen P) (k : ℕ)
-    (new : (j : ℕ) → More j → (j ≡ k) ⊎ Seen j) where
-  old_row : (j : ℕ) → More j → get_or of j 0 < 201 → (get_or of j 0 ≡ get_or of k 0 → ⊥) → P j (get_or table (get_or of j 0) 0)
-  old_row j m l n = ⊎_elim (λ (e : j ≡ k). absurd (n (ap (λ (i : ℕ). get_or of i 0) e))) (λ (s : Seen j). t.row j s l) (new j m)
-
-  -- it is of a correction that has no mark; its correction now has v
-  pub tabled_skip : 201 ≤ get_or of k 0 → Tabled of table More P
-  tabled_skip h = record { long = t.long; row = λ j m l. old_row j m l (λ e. omega arith) }
-
-  pub tabled_next : (v : ℕ) → get_or of k 0 < 201 → ((j : ℕ) → More j → P j v) → Tabled of (set table (get_or of k 0) v) More P
-  tabled_next v h p =
-      let now : get_or (set table (get_or of k 0) v) (get_or of k 0) 0 ≡ v = get_or-set_same table (get_or of k 0) v 0 (omega (arith, t.long)) in
-      record {
-        long = length-set table (get_or of k 0) v ∙ t.long;
-        row = λ j m l. ⊎_elim
-            (λ (e : get_or of j 0 ≡ get_or of k 0). rw (e, now) (p j m))
-            (λ (n : get_or of j 0 ≡ get_or of k 0 → ⊥). rw (get_or-set_other table (get_or of k 0) (get_or of j 0) v 0 n) (old_row j m l n))
-            (same_or_not (get_or of j 0) (get_or of k 0));
-      }
+-- ---- where the lines of each correction stand
 
 module _ (of : List ℕ) where
-  -- the lines from k on were looked at for where each correction begins; those before k for where it ends
-  unfoldable pub Firsts : List ℕ → ℕ → Type 0
-  Firsts firsts k = Tabled of firsts (λ j. (k ≤ j) × (j < length of)) (λ j v. v ≤ j)
+  -- the first k lines were looked at
+  pub record Spanned (spans : List Span) (k : ℕ) : Type 0 where
+    pub long : length spans ≡ 201
+    pub begun : (c : ℕ) → (get_or spans c no_span).first ≤ k
+    pub row : (j : ℕ) → j < k → get_or of j 0 < 201
+        → ((get_or spans (get_or of j 0) no_span).first ≤ j) × (j < (get_or spans (get_or of j 0) no_span).end)
 
-  unfoldable pub Ends : List ℕ → ℕ → Type 0
-  Ends ends k = Tabled of ends (λ j. j < k) (λ j v. j < v)
+  pub spanned_start : Spanned (replicate 201 no_span) 0
+  spanned_start = record {
+    long = length-replicate {A = Span} 201 no_span;
+    begun = λ c. let e : get_or (replicate 201 no_span) c no_span ≡ no_span = none_at 201 c in rw e (omega arith);
+    row = λ j h. absurd (omega arith);
+  }
+    where
+      none_at : (n c : ℕ) → get_or (replicate n no_span) c no_span ≡ no_span
+      none_at zero c = refl
+      none_at (suc n) zero = refl
+      none_at (suc n) (suc c) = none_at n c
 
-  pub firsts_start : Firsts (replicate 201 0) (length of)
-  unfolding Firsts
-  firsts_start = record { long = length-replicate {A = ℕ} 201 0; row = λ j s. absurd (omega (arith, s.0, s.1)) }
+  module _ (spans : List Span) (k : ℕ) (s : Spanned spans k) where
+    -- a line of a correction that has no mark
+    pub spanned_skip : 201 ≤ get_or of k 0 → Spanned spans (k + 1)
+    spanned_skip h = record {
+      long = s.long;
+      begun = λ c. omega (arith, s.begun c);
+      row = below_more _ k s.row (λ l. absurd (omega arith));
+    }
 
-  pub firsts_skip : (firsts : List ℕ) (k : ℕ) → Firsts firsts k → 0 < k → 201 ≤ get_or of (k - 1) 0 → Firsts firsts (k - 1)
-  unfolding Firsts
-  firsts_skip firsts k t z = tabled_skip of firsts _ _ _ t (k - 1) (λ j s. one_or_not j (k - 1) (λ n. (omega (arith, s.0), s.1)))
+    pub spanned_next : (first : ℕ) → get_or of k 0 < 201 → first ≤ k
+        → (0 < (get_or spans (get_or of k 0) no_span).end → first ≡ (get_or spans (get_or of k 0) no_span).first)
+        → Spanned (set spans (get_or of k 0) (record { first = first; end = k + 1 })) (k + 1)
+    spanned_next first h few same = record {
+      long = length-set spans (get_or of k 0) new ∙ s.long;
+      begun = λ c. by c (eqb c (get_or of k 0)) refl;
+      row = below_more _ k (λ j l m. old j l m (eqb (get_or of j 0) (get_or of k 0)) refl) (λ l. rw now (omega arith, omega arith));
+    }
+      where
+        new : Span
+        new = record { first = first; end = k + 1 }
 
-  pub firsts_next : (firsts : List ℕ) (k : ℕ) → Firsts firsts k → 0 < k → get_or of (k - 1) 0 < 201
-      → Firsts (set firsts (get_or of (k - 1) 0) (k - 1)) (k - 1)
-  unfolding Firsts
-  firsts_next firsts k t z h = tabled_next of firsts _ _ _ t (k - 1) (λ j s. one_or_not j (k - 1) (λ n. (omega (arith, s.0), s.1))) (k - 1) h (λ j s. s.0)
+        now : get_or (set spans (get_or of k 0) new) (get_or of k 0) no_span ≡ new
+        now = get_or-set_same spans (get_or of k 0) new no_span (omega (arith, s.long))
 
-  pub firsts_end : (firsts : List ℕ) (k : ℕ) → Firsts firsts k → k ≤ 0 → NoneBefore of firsts
-  unfolding Firsts NoneBefore
-  firsts_end firsts k t z j h = t.row j (omega arith, h)
+        by : (c : ℕ) (b : Bool) → eqb c (get_or of k 0) ≡ b → (get_or (set spans (get_or of k 0) new) c no_span).first ≤ k + 1
+        by c true e = let q : c ≡ get_or of k 0 = eqb-true c (get_or of k 0) e in rw (q, now) (omega arith)
+        by c false e = rw (get_or-set_other spans (get_or of k 0) c new no_span (eqb-false c (get_or of k 0) e)) (omega (arith, s.begun c))
 
-  pub ends_start : Ends (replicate 201 0) 0
-  unfolding Ends
-  ends_start = record { long = length-replicate {A = ℕ} 201 0; row = λ j s. absurd (omega arith) }
+        old : (j : ℕ) → j < k → get_or of j 0 < 201 → (b : Bool) → eqb (get_or of j 0) (get_or of k 0) ≡ b
+            → ((get_or (set spans (get_or of k 0) new) (get_or of j 0) no_span).first ≤ j) × (j < (get_or (set spans (get_or of k 0) new) (get_or of j 0) no_span).end)
+        old j l m true e =
+            let q : get_or of j 0 ≡ get_or of k 0 = eqb-true (get_or of j 0) (get_or of k 0) e in
+            let r = subst (λ (c : ℕ). ((get_or spans c no_span).first ≤ j) × (j < (get_or spans c no_span).end)) q (s.row j l m) in
+            rw (q, now) (omega (arith, r.0, same (omega (arith, r.1))), omega arith)
+        old j l m false e = rw (get_or-set_other spans (get_or of k 0) (get_or of j 0) new no_span (eqb-false (get_or of j 0) (get_or of k 0) e)) (s.row j l m)
 
-  pub ends_skip : (ends : List ℕ) (k : ℕ) → Ends ends k → 201 ≤ get_or of k 0 → Ends ends (k + 1)
-  unfolding Ends
-  ends_skip ends k t = tabled_skip of ends _ _ _ t k (λ j s. one_or_not j k (λ n. omega arith))
-
-  pub ends_next : (ends : List ℕ) (k : ℕ) → Ends ends k → get_or of k 0 < 201 → Ends (set ends (get_or of k 0) (k + 1)) (k + 1)
-  unfolding Ends
-  ends_next ends k t h = tabled_next of ends _ _ _ t k (λ j s. one_or_not j k (λ n. omega arith)) (k + 1) h (λ j s. s)
-
-  pub ends_end : (ends : List ℕ) (k : ℕ) → Ends ends k → length of ≤ k → NoneBehind of ends
-  unfolding Ends NoneBehind
-  ends_end ends k t h j l = t.row j (omega arith)
+  pub spanned_end : (spans : List Span) → Spanned spans (length of) → Spans of spans
+  spanned_end spans s = s.row
 
 -- ---- the wanted corrections, one after the other
 

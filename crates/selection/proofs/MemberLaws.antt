@@ -2,14 +2,14 @@
 -- Assumes nothing.
 use Rattle.refusals.specs.Table.{Accepted, Refused}
 use mathlib.Core.Path.{◌≡◌, refl, sym, ap, ap₂, subst, ◌∙◌}
-use mathlib.Core.Bool.{Bool, true, false, cond}
+use mathlib.Core.Bool.{true, false}
 use mathlib.Core.List.{List, [], ◌∷◌, ◌++◌, map}
-use Prim.Native.Nat.{ℕ, zero, suc, ◌+◌, ◌-◌, ◌≤◌, ◌<◌}
+use Prim.Native.Nat.{ℕ, zero, suc, ◌+◌, ◌-◌, ◌≤◌, ◌<◌, min}
 use native.Mathlib.Omega.{arith}
-use lib.ListN.{length, get_or, set, take, replicate, length-append, length-map, length-take, get_or-eq_default, get_or-map}
-use lib.Seq.{get_or-take}
-use lib.Dec.{eqb}
-use borrow.Author.Tests.{eqb-true, eqb-false, ne_eqb}
+use lib.ListN.{length, get_or, take, replicate, length-append, length-map, get_or-eq_default, get_or-map}
+use lib.Seq.{take_all}
+use lib.Dec.{eqb, leb}
+use borrow.Author.Tests.{eqb-true, eqb-false, ne_eqb, leb-true, leb-false}
 use Rattle.slices.proofs.Cases.{split}
 use Rattle.slices.proofs.PartLaws.{one_less, get_or_any}
 use Rattle.slices.proofs.WriteLaws.{sets-append, stored_front}
@@ -24,14 +24,6 @@ use Rattle.selection.specs.declared.Picked.{Picked}
 use Rattle.selection.specs.declared.carry.Members.{Members}
 
 -- ---- the marked numbers
-
-pub grown_none : (m : Members) (n : ℕ) {b : Bool} → b ≡ false → m ≡ with_members m (cond b (n ∷ []) [])
-unfolding with_members
-grown_none m n e = let z : m.count + 0 ≡ m.count = omega arith in rw (e, z)
-
-pub grown_one : (m : Members) (n : ℕ) {b : Bool} → b ≡ true → record { count = m.count + 1; at = set m.at m.count n } ≡ with_members m (cond b (n ∷ []) [])
-unfolding with_members
-grown_one m n e = rw e
 
 grown_twice : (m : Members) (xs ys : List ℕ) → with_members (with_members m xs) ys ≡ with_members m (xs ++ ys)
 unfolding with_members
@@ -60,26 +52,23 @@ members_start T total h =
     let z : 0 + length (members_from T 1 total) ≡ length (members_from T 1 total) = omega arith in
     sym (rw (e, z) (ap (λ (xs : List ℕ). record { count = length (members_from T 1 total); at = xs }) (stored_front 0 200 (members_from T 1 total) (omega (arith, members_few T 1 total)))))
 
-pub members_next : (T : Numbers) (total n : ℕ) (found next : Members) {b : Bool} {whole : Members} → whole ≡ members_left T total n found → n < total → b ≡ T (n + 1)
-    → next ≡ with_members found (cond b ((n + 1) ∷ []) []) → whole ≡ members_left T total (n + 1) next
-unfolding members_left members_from
-members_next T total n found next {b} w h t e =
-    w ∙ rw (one_less total n h) (ap (with_members found) (apart (T (n + 1)) (members_from T (n + 1 + 1) (total - (n + 1)))))
-    ∙ sym (grown_twice found (cond (T (n + 1)) ((n + 1) ∷ []) []) (members_from T (n + 1 + 1) (total - (n + 1))))
-    ∙ ap (λ (m : Members). with_members m (members_from T (n + 1 + 1) (total - (n + 1)))) (sym (e ∙ ap (λ (x : Bool). with_members found (cond x ((n + 1) ∷ []) [])) t))
-  where
-    apart : (x : Bool) (rest : List ℕ) → cond x ((n + 1) ∷ rest) rest ≡ cond x ((n + 1) ∷ []) [] ++ rest
-    apart true rest = refl
-    apart false rest = refl
+module _ (T : Numbers) (total n : ℕ) (found : Members) (few : found.count ≤ n) {whole : Members} (w : whole ≡ members_left T total n found) (h : n < total) where
+  pub members_found : T (n + 1) ≡ true → {next : Members} → next ≡ with_members found ((n + 1) ∷ [])
+      → (next.count ≤ n + 1) × (whole ≡ members_left T total (n + 1) next)
+  unfolding members_left members_from with_members
+  members_found t {next} e =
+      let one : found.count + 1 ≤ n + 1 = omega arith in (
+        subst (λ (m : Members). m.count ≤ n + 1) (sym e) one,
+        w ∙ rw (one_less total n h, t) (sym (grown_twice found ((n + 1) ∷ []) (members_from T (n + 1 + 1) (total - (n + 1)))))
+            ∙ ap (λ (m : Members). with_members m (members_from T (n + 1 + 1) (total - (n + 1)))) (sym e),
+      )
 
--- no more were found than there are numbers before
-pub grown_few : (found next : Members) (n : ℕ) (b : Bool) → next ≡ with_members found (cond b ((n + 1) ∷ []) []) → found.count ≤ n → next.count ≤ n + 1
-unfolding with_members
-grown_few found next n b e h = subst (λ (m : Members). m.count ≤ n + 1) (sym e) (by b)
-  where
-    by : (x : Bool) → (with_members found (cond x ((n + 1) ∷ []) [])).count ≤ n + 1
-    by true = omega arith
-    by false = omega arith
+  pub members_passed : T (n + 1) ≡ false → {next : Members} → next ≡ found → (next.count ≤ n + 1) × (whole ≡ members_left T total (n + 1) next)
+  unfolding members_left members_from
+  members_passed t {next} e = (
+    subst (λ (m : Members). m.count ≤ n + 1) (sym e) (omega arith),
+    w ∙ rw (one_less total n h, t, e),
+  )
 
 -- ---- the members themselves
 
@@ -126,31 +115,29 @@ module _ (f l : List ℕ) (s : Sources) where
   unfolding line_in
   line_zero n e = rw e
 
-  line_beyond : (n : ℕ) → length (in_use s) < n → [] ≡ line_in f l s n
-  unfolding line_in
-  line_beyond zero h = refl
-  line_beyond (suc n) h = sym (get_or-eq_default (map (record_at f l) (in_use s)) [] (omega (arith, length-map (in_use s) (record_at f l))))
+  module _ {m : ℕ} (e : m ≡ min s.count 480) (long : length s.at ≡ 480) where
+    used : take m s.at ≡ in_use s
+    unfolding in_use
+    used =
+        split (leb s.count 480)
+        (λ t. let h = leb-true s.count 480 t in let z : m ≡ s.count = omega (arith, e) in rw z)
+        (λ t.
+        let h = leb-false s.count 480 t in
+        take_all m s.at (omega (arith, e)) ∙ sym (take_all s.count s.at (omega arith)))
 
-  pub line_past : (n : ℕ) → s.count < n → [] ≡ line_in f l s n
-  unfolding in_use
-  line_past n h = line_beyond n (omega (arith, length-take s.count s.at))
+    pub line_past : (n : ℕ) → (n ≡ 0 → ⊥) → length (take m s.at) ≤ n - 1 → [] ≡ line_in f l s n
+    unfolding line_in
+    line_past zero z h = absurd (z refl)
+    line_past (suc n) z h =
+        sym (get_or-eq_default (map (record_at f l) (in_use s)) [] (omega (arith, length-map (in_use s) (record_at f l), ap length used)))
 
-  pub line_far : (n : ℕ) → length s.at ≡ 480 → 480 < n → [] ≡ line_in f l s n
-  unfolding in_use
-  line_far n e h = line_beyond n (omega (arith, length-take s.count s.at))
-
-  line_there : (n : ℕ) → n < s.count → n < length s.at → record_at f l (get_or s.at n 0) ≡ line_in f l s (suc n)
-  unfolding line_in in_use
-  line_there n h k =
-      let m : n < length (take s.count s.at) = omega (arith, length-take s.count s.at) in
-      sym (get_or_any (map (record_at f l) (take s.count s.at)) n [] (record_at f l 0) (omega (arith, length-map (take s.count s.at) (record_at f l)))
-      ∙ get_or-map (record_at f l) (take s.count s.at) n 0 ∙ ap (record_at f l) (get_or-take s.count s.at n 0 h))
-
-  pub line_is : (n : ℕ) {r : List ℕ} → (n ≡ 0 → ⊥) → n ≤ s.count → n ≤ 480 → length s.at ≡ 480 → r ≡ record_at f l (get_or s.at (n - 1) 0) → r ≡ line_in f l s n
-  line_is zero z h k e q = absurd (z refl)
-  line_is (suc n) z h k e q =
-      let m : suc n - 1 ≡ n = omega arith in
-      q ∙ ap (λ (i : ℕ). record_at f l (get_or s.at i 0)) m ∙ line_there n (omega arith) (omega arith)
+    pub line_is : (n : ℕ) → (n ≡ 0 → ⊥) → n - 1 < length (take m s.at) → record_at f l (get_or (take m s.at) (n - 1) 0) ≡ line_in f l s n
+    unfolding line_in
+    line_is zero z h = absurd (z refl)
+    line_is (suc n) z h =
+        let k : suc n - 1 ≡ n = omega arith in
+        rw k (sym (get_or_any (map (record_at f l) (in_use s)) n [] (record_at f l 0) (omega (arith, length-map (in_use s) (record_at f l), ap length used))
+        ∙ get_or-map (record_at f l) (in_use s) n 0 ∙ ap (λ (xs : List ℕ). record_at f l (get_or xs n 0)) (sym used)))
 
 module _ (f l : List ℕ) (n : ℕ) where
   pub line_accepted : (p : Picked) {r : List ℕ} → p.verdict ≡ Accepted → r ≡ line_in f l p.records n → r ≡ line_of_pick f l p n

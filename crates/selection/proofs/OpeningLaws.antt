@@ -1,63 +1,101 @@
 -- Laws of what is judged before any correction is applied, and what it is for the wanted numbers to pass.
 -- Assumes nothing.
-use mathlib.Core.Path.{◌≡◌, refl, sym, ◌∙◌}
-use mathlib.Core.Bool.{cond, ◌||◌}
+use mathlib.Core.Path.{◌≡◌, refl, sym, ap, ◌∙◌}
+use mathlib.Core.Bool.{Bool, cond, ◌||◌}
 use mathlib.Core.Logic.{◌↔◌}
 use mathlib.Core.List.{List, [], ◌∷◌}
-use Prim.Native.Nat.{ℕ, ◌+◌, ◌≤◌, ◌<◌}
+use Prim.Native.Nat.{ℕ, suc, ◌+◌, ◌≤◌, ◌<◌}
 use native.Mathlib.Omega.{arith}
-use native.Mathlib.Numerals.{add-one}
 use lib.Dec.{eqb, ltb}
-use lib.ListN.{length, get_or, drop, drop_of_length-le}
-use lib.Seq.{drop-cons}
-use borrow.Author.Tests.{eq-eqb, ne_eqb, eqb-false, lt-ltb, le-ltb, ltb-false}
+use lib.ListN.{length}
+use Rattle.std.specs.Prelude.{Some, None, Ok}
+use Rattle.std.specs.List.{position_or_len, position}
+use borrow.Author.Tests.{ne_eqb, eqb-false, lt-ltb, le-ltb, ltb-true, ltb-false}
 use Rattle.slices.proofs.Cases.{split}
 use Rattle.refusals.specs.Table.{log_too_long, not_in_log, Verdict, Accepted, Refused}
 use Rattle.refusals.specs.declared.Refusal.{Refusal}
-use Rattle.refusals.proofs.VerdictLaws.{never}
-use Rattle.corrections.specs.Reading.{refused, read_log, index_of}
+use Rattle.refusals.proofs.VerdictLaws.{never, same_refusal}
+use Rattle.corrections.specs.Reading.{Reading, refused, said, read_log, index_of}
 use Rattle.corrections.specs.declared.Index.{Index}
 use Rattle.routes.specs.Files.{file_verdict}
 use Rattle.routes.specs.InTurn.{in_turn}
 use Rattle.routes.specs.Places.{Every}
 use Rattle.routes.specs.Sources.{records}
-use Rattle.selection.specs.Pick.{length_stage, opened, wanted_stage}
+use Rattle.selection.specs.Pick.{length_stage, opening_of, opened, wanted_stage}
 
 -- ---- the log's length, the frozen file, the log's lines
 
 module _ (f l : List ℕ) where
-  pub opening_long : {r : Refusal} {i : Index} → 60000 < length l → r ≡ log_too_long → i ≡ index_of (refused r) → i ≡ index_of (opened f l)
+  pub opening_long : {r : Refusal} → 60000 < length l → r ≡ log_too_long → opened f l ≡ refused r
   unfolding opened length_stage in_turn
-  opening_long h e q = q ∙ rw (lt-ltb 60000 (length l) h, e)
+  opening_long h e = rw (lt-ltb 60000 (length l) h, e)
 
   module _ (h : length l ≤ 60000) {v : Verdict} (e : v ≡ file_verdict f) where
-    pub opening_file : {r : Refusal} {i : Index} → v ≡ Refused r → i ≡ index_of (refused r) → i ≡ index_of (opened f l)
+    pub opening_file : {r : Refusal} → v ≡ Refused r → opened f l ≡ refused r
     unfolding opened length_stage in_turn
-    opening_file t q = q ∙ rw (le-ltb 60000 (length l) h, sym e ∙ t)
+    opening_file t = rw (le-ltb 60000 (length l) h, sym e ∙ t)
 
-    pub opening_log : {n : ℕ} {i : Index} → v ≡ Accepted → n ≡ length (records f) → i ≡ index_of (read_log l n) → i ≡ index_of (opened f l)
-    unfolding opened length_stage in_turn
-    opening_log t c q = q ∙ rw (le-ltb 60000 (length l) h, sym e ∙ t, c)
+    module _ {n : ℕ} {i : Index} (t : v ≡ Accepted) (c : n ≡ length (records f)) (q : i ≡ index_of (read_log l n)) where
+      was_read : opened f l ≡ read_log l n
+      unfolding opened length_stage in_turn
+      was_read = rw (le-ltb 60000 (length l) h, sym e ∙ t, c)
 
--- ---- the wanted numbers, from the one at i on
+      pub opening_log : {r : Refusal} → i.verdict ≡ Refused r → opened f l ≡ refused r
+      unfolding index_of
+      opening_log {r} w = was_read ∙ by (read_log l n) (sym (ap (λ (x : Index). x.verdict) q) ∙ w)
+        where
+          by : (o : Reading) → (index_of o).verdict ≡ Refused r → o ≡ refused r
+          by (refused s) x = ap refused (same_refusal x)
+          by (said m es) x = absurd (never (sym x))
 
-module _ (n : ℕ) (ws : List ℕ) (i : ℕ) {whole : Verdict} (w : whole ≡ wanted_stage n (i + 1) (drop i ws)) where
-  pub wanted_end : length ws ≤ i → Accepted ≡ whole
-  unfolding wanted_stage
-  wanted_end h = sym (w ∙ rw (drop_of_length-le ws h))
+      pub opening_read : i.verdict ≡ Accepted → opening_of (opened f l) ≡ Ok i
+      unfolding index_of
+      opening_read w = ap opening_of was_read ∙ by (read_log l n) q (sym (ap (λ (x : Index). x.verdict) q) ∙ w)
+        where
+          by : (o : Reading) → i ≡ index_of o → (index_of o).verdict ≡ Accepted → opening_of o ≡ Ok i
+          by (refused s) p x = absurd (never x)
+          by (said m es) p x = ap Ok (sym p)
 
-  module _ (h : i < length ws) where
-    pub wanted_zero : {r : Refusal} → get_or ws i 0 ≡ 0 → r ≡ not_in_log (i + 1) → Refused r ≡ whole
-    unfolding wanted_stage
-    wanted_zero z e = sym (w ∙ rw (drop-cons ws i 0 h, eq-eqb (get_or ws i 0) 0 z, e))
+-- ---- the wanted numbers
 
-    pub wanted_past : {r : Refusal} → (get_or ws i 0 ≡ 0 → ⊥) → n < get_or ws i 0 → r ≡ not_in_log (i + 1) → Refused r ≡ whole
-    unfolding wanted_stage
-    wanted_past z p e = sym (w ∙ rw (drop-cons ws i 0 h, ne_eqb (get_or ws i 0) 0 z, lt-ltb n (get_or ws i 0) p, e))
+-- the first that is 0, or past the last correction
+abbrev pub bad : (corrections : ℕ) → ℕ → Bool
+bad n w = eqb w 0 || ltb n w
 
-    pub wanted_next : (get_or ws i 0 ≡ 0 → ⊥) → get_or ws i 0 ≤ n → whole ≡ wanted_stage n (i + 1 + 1) (drop (i + 1) ws)
-    unfolding wanted_stage
-    wanted_next z p = w ∙ rw (drop-cons ws i 0 h, ne_eqb (get_or ws i 0) 0 z, le-ltb n (get_or ws i 0) p, add-one)
+wanted_first : (n i : ℕ) (ws : List ℕ)
+    → (position_or_len (bad n) ws < length ws → wanted_stage n i ws ≡ Refused (not_in_log (i + position_or_len (bad n) ws)))
+    × (length ws ≤ position_or_len (bad n) ws → wanted_stage n i ws ≡ Accepted)
+unfolding wanted_stage
+wanted_first n i [] = (λ h. absurd (omega arith), λ h. refl)
+wanted_first n i (w ∷ ws) =
+    split (bad n w)
+    (λ t. let z : i ≡ i + 0 = omega arith in (λ h. rw t (ap (λ (k : ℕ). Refused (not_in_log k)) z), λ h. let q : suc (length ws) ≤ 0 = rw t at h in absurd (omega arith)))
+    (λ t.
+    let ih = wanted_first n (i + 1) ws in
+    let s : i + 1 + position_or_len (bad n) ws ≡ i + (1 + position_or_len (bad n) ws) = omega arith in (
+      λ h.
+          let q : 1 + position_or_len (bad n) ws < suc (length ws) = rw t at h in
+          rw t (ih.0 (omega arith) ∙ ap (λ (k : ℕ). Refused (not_in_log k)) s),
+      λ h.
+          let q : suc (length ws) ≤ 1 + position_or_len (bad n) ws = rw t at h in
+          rw t (ih.1 (omega arith)),
+    ))
+
+module _ (n : ℕ) (ws : List ℕ) where
+  pub wanted_bad : {i : ℕ} {r : Refusal} → Some i ≡ position (bad n) ws → r ≡ not_in_log (i + 1) → Refused r ≡ wanted_stage n 1 ws
+  wanted_bad {i} p e =
+      split (ltb (position_or_len (bad n) ws) (length ws))
+      (λ t.
+      let q : i ≡ position_or_len (bad n) ws = (let o : Some i ≡ Some (position_or_len (bad n) ws) = p ∙ rw t in cc) in
+      let s : i + 1 ≡ 1 + position_or_len (bad n) ws = omega arith in
+      ap Refused (e ∙ ap not_in_log s) ∙ sym ((wanted_first n 1 ws).0 (ltb-true (position_or_len (bad n) ws) (length ws) t)))
+      (λ t. let o : Some i ≡ None = p ∙ rw t in let z : ◌≡◌ {A = ℕ} 0 1 = cc in absurd (omega arith))
+
+  pub wanted_fine : None ≡ position (bad n) ws → Accepted ≡ wanted_stage n 1 ws
+  wanted_fine p =
+      split (ltb (position_or_len (bad n) ws) (length ws))
+      (λ t. let o : None ≡ Some (position_or_len (bad n) ws) = p ∙ rw t in let z : ◌≡◌ {A = ℕ} 0 1 = cc in absurd (omega arith))
+      (λ t. sym ((wanted_first n 1 ws).1 (ltb-false (position_or_len (bad n) ws) (length ws) t)))
 
 -- The wanted numbers pass exactly when each is the number of one of the n corrections.
 pub wanted_iff : (n i : ℕ) (ws : List ℕ) → (wanted_stage n i ws ≡ Accepted) ↔ Every (λ w. (1 ≤ w) × (w ≤ n)) ws

@@ -172,10 +172,10 @@ module _ (frozen log ws : List ℕ) where
 -- ---- as the code asks for it
 
 -- What is marked of an accepted log is taken, and so not refused.
-pub chosen_carries : (f l ws : List ℕ) (index : Index) (c : Chosen) → Opens f l index → Chooses f l index ws c → c.failure.verdict ≡ Accepted → Carries f l c.marks index
-chosen_carries f l ws index c o h v =
+pub chosen_carries : (f l ws : List ℕ) (index : Index) (c : Chosen) → Opens f l index → Chooses f l index ws c → Carries f l c.marks index
+chosen_carries f l ws index c o h =
     let n = index.corrections in
     let es = lines_of index in
-    let whole = all_run_lem f l ws n es h.settles v in
+    let whole = all_run_lem f l ws n es o.1 h.settles in
     let (xs, e) = taken_stands f l ws (record { opening = said_opening f l n es o.1; last = whole.0; all = whole.1 }) in
-    (xs, carried_same f l (marked c.marks) (taken_of f l n es ws) n es (h.takes v) ∙ e)
+    (xs, carried_same f l (marked c.marks) (taken_of f l n es ws) n es h.takes ∙ e)

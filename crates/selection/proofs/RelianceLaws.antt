@@ -18,7 +18,7 @@ use Rattle.routes.specs.Places.{key_of}
 use Rattle.routes.specs.Sources.{log_source, record_at}
 use Rattle.corrections.specs.declared.Index.{Index}
 use Rattle.applying.specs.Apply.{entry_at, entries_from, record_of_line}
-use Rattle.selection.specs.Reliance.{last_before, relied_by, ReliedOn, reliances}
+use Rattle.selection.specs.Reliance.{last_before, relied_by, reliances}
 
 -- ---- the lines before line k, of which the first j are left
 
@@ -33,49 +33,49 @@ last_line f l n key index found i (suc j) = let e : i + suc j ≡ i + 1 + j = om
     rw e
     (last_line f l n key index (cond (ltb (get_or index.correction i 0) n && equal key (key_of (record_of_line f l (entry_at index i)))) (get_or index.correction i 0) found) (i + 1) j)
 
-module _ (f l ats of : List ℕ) (k : ℕ) where
+module _ (f l : List ℕ) (index : Index) (k : ℕ) where
   -- the record of a line
   abbrev own : ℕ → List ℕ
-  own j = record_at f l (log_source (get_or ats j 0))
+  own j = record_at f l (log_source (get_or index.at j 0))
 
   -- what line k relies on stands among the first j lines
   unfoldable pub Among : ℕ → Type 0
-  Among j = (index : Index) → index.at ≡ ats → index.correction ≡ of
-      → relied_by f l index k ≡ last_before f l (get_or of k 0) (key_of (own k)) 0 (entries_from index 0 j)
+  Among j = relied_by f l index k ≡ last_before f l (get_or index.correction k 0) (key_of (own k)) 0 (entries_from index 0 j)
 
   pub relied_start : Among k
   unfolding Among relied_by
-  relied_start index p q = rw (p, q)
+  relied_start = refl
 
-  pub relied_none : (j : ℕ) → Among j → j ≤ 0 → ReliedOn f l ats of k 0
+  pub relied_none : (j : ℕ) → Among j → j ≤ 0 → 0 ≡ relied_by f l index k
   unfolding Among last_before entries_from
-  relied_none j a h index p q = let z : j ≡ 0 = omega arith in sym (a index p q ∙ rw z)
+  relied_none j a h = let z : j ≡ 0 = omega arith in sym (a ∙ rw z)
 
   -- the last of the lines that are left
   module _ (j : ℕ) (a : Among j) (some : 0 < j) where
-    by_last : (b : Bool) → (ltb (get_or of (j - 1) 0) (get_or of k 0) && equal (key_of (own k)) (key_of (own (j - 1)))) ≡ b
-        → (index : Index) → index.at ≡ ats → index.correction ≡ of
-        → relied_by f l index k ≡ cond b (get_or of (j - 1) 0) (last_before f l (get_or of k 0) (key_of (own k)) 0 (entries_from index 0 (j - 1)))
+    abbrev earlier : ℕ
+    earlier = get_or index.correction (j - 1) 0
+
+    by_last : (b : Bool) → (ltb earlier (get_or index.correction k 0) && equal (key_of (own k)) (key_of (own (j - 1)))) ≡ b
+        → relied_by f l index k ≡ cond b earlier (last_before f l (get_or index.correction k 0) (key_of (own k)) 0 (entries_from index 0 (j - 1)))
     unfolding Among
-    by_last b t index p q =
+    by_last b t =
         let e : j ≡ suc (j - 1) = omega arith in
         let z : 0 + (j - 1) ≡ j - 1 = omega arith in
-        a index p q ∙ ap (λ (i : ℕ). last_before f l (get_or of k 0) (key_of (own k)) 0 (entries_from index 0 i)) e
-        ∙ last_line f l (get_or of k 0) (key_of (own k)) index 0 0 (j - 1) ∙ rw (z, p, q, t)
+        a ∙ ap (λ (i : ℕ). last_before f l (get_or index.correction k 0) (key_of (own k)) 0 (entries_from index 0 i)) e
+        ∙ last_line f l (get_or index.correction k 0) (key_of (own k)) index 0 0 (j - 1) ∙ rw (z, t)
 
     -- it is of no earlier correction
-    pub relied_later : get_or of k 0 ≤ get_or of (j - 1) 0 → Among (j - 1)
+    pub relied_later : get_or index.correction k 0 ≤ earlier → Among (j - 1)
     unfolding Among
-    relied_later h = by_last false (rw (le-ltb (get_or of (j - 1) 0) (get_or of k 0) h))
+    relied_later h = by_last false (rw (le-ltb earlier (get_or index.correction k 0) h))
 
     -- it is of an earlier one, and its route is compared
-    module _ {same : Bool} {rec other : List ℕ} {source : ℕ} (h : get_or of (j - 1) 0 < get_or of k 0) (e : same ≡ equal (key_of rec) (key_of other)) (r : rec ≡ own k)
-        (o : other ≡ record_at f l source) (s : source ≡ log_source (get_or ats (j - 1) 0)) where
-      counts : (ltb (get_or of (j - 1) 0) (get_or of k 0) && equal (key_of (own k)) (key_of (own (j - 1)))) ≡ same
-      counts = rw (lt-ltb (get_or of (j - 1) 0) (get_or of k 0) h, e, r, o, s)
+    module _ {same : Bool} {rec other : List ℕ} (h : earlier < get_or index.correction k 0) (e : same ≡ equal (key_of rec) (key_of other)) (r : rec ≡ own k) (o : other ≡ own (j - 1)) where
+      counts : (ltb earlier (get_or index.correction k 0) && equal (key_of (own k)) (key_of (own (j - 1)))) ≡ same
+      counts = rw (lt-ltb earlier (get_or index.correction k 0) h, e, r, o)
 
-      pub relied_found : same ≡ true → ReliedOn f l ats of k (get_or of (j - 1) 0)
-      relied_found t index p q = sym (by_last true (counts ∙ t) index p q)
+      pub relied_found : same ≡ true → earlier ≡ relied_by f l index k
+      relied_found t = sym (by_last true (counts ∙ t))
 
       pub relied_other : same ≡ false → Among (j - 1)
       unfolding Among

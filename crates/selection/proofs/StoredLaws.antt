@@ -4,8 +4,8 @@ use mathlib.Core.Path.{◌≡◌, refl, sym, ap, ap₂, subst, ◌∙◌}
 use mathlib.Core.List.{List, [], ◌∷◌, ◌++◌, map, append_assoc}
 use Prim.Native.Nat.{ℕ, suc, ◌+◌, ◌-◌, ◌*◌, ◌≤◌, ◌<◌}
 use native.Mathlib.Omega.{arith}
-use lib.ListN.{length, get_or, set, drop, replicate, length-map, length-replicate, drop_of_length-le}
-use lib.Seq.{sets, drop-cons, get_or-take, take_at}
+use lib.ListN.{length, get_or, set, take, drop, replicate, length-map, length-replicate, drop_of_length-le}
+use lib.Seq.{sets, drop-cons, take_at}
 use borrow.Author.Tests.{lt-ltb, le-ltb}
 use Rattle.slices.specs.Part.{part, padded}
 use Rattle.slices.proofs.PartLaws.{length_part, part_all}
@@ -19,7 +19,6 @@ use Rattle.routes.specs.declared.Sources.{Sources}
 use Rattle.routes.proofs.Lines.{length_lines}
 use Rattle.selection.specs.Pick.{Pick, refused_by, picked, pick_of, new_records, new_bytes, file_pick, picked_as, stored}
 use Rattle.selection.specs.declared.Picked.{Picked}
-use Rattle.applying.proofs.StateLaws.{in_use-length}
 use Rattle.selection.proofs.Demand.{picked_demand}
 
 -- ---- one turn: the record at i is stored behind those before it
@@ -43,26 +42,23 @@ module _ (f l : List ℕ) (s : Sources) where
   unfolding stored_from
   stored_start out = refl
 
-module _ (f l : List ℕ) (s : Sources) (h : s.count ≤ 480) (a : length s.at ≡ 480) where
-  pub stored_end : (out : List ℕ) (i : ℕ) {whole : List ℕ} → whole ≡ stored_from f l s out i → s.count ≤ i → out ≡ whole
-  unfolding stored_from stored
-  stored_end out i w k = sym (w ∙ ap (λ (xs : List ℕ). sets out (i * 133) (stored (map (record_at f l) xs))) (drop_of_length-le (in_use s) (let z : length (in_use s) ≤ i = omega (arith, in_use-length s h a) in z)))
+module _ (f l : List ℕ) (s : Sources) where
+  pub stored_end : (out : List ℕ) (i : ℕ) {whole : List ℕ} → whole ≡ stored_from f l s out i → length (take s.count s.at) ≤ i → out ≡ whole
+  unfolding stored_from stored in_use
+  stored_end out i w k = sym (w ∙ ap (λ (xs : List ℕ). sets out (i * 133) (stored (map (record_at f l) xs))) (drop_of_length-le (take s.count s.at) k))
 
-  source_at : (i : ℕ) → i < s.count → get_or (in_use s) i 0 ≡ get_or s.at i 0
-  unfolding in_use
-  source_at i k = get_or-take s.count s.at i 0 k
-
-  pub stored_next : (out : List ℕ) (i : ℕ) {whole rec mid next : List ℕ} → whole ≡ stored_from f l s out i → i < s.count → rec ≡ record_at f l (get_or s.at i 0)
-      → mid ≡ sets out (i * 133) (part 132 0 rec) → next ≡ set mid (i * 133 + 132) 10 → whole ≡ stored_from f l s next (i + 1)
-  unfolding stored_from
+  pub stored_next : (out : List ℕ) (i : ℕ) {whole rec mid next : List ℕ} → whole ≡ stored_from f l s out i → i < length (take s.count s.at)
+      → rec ≡ record_at f l (get_or (take s.count s.at) i 0) → mid ≡ sets out (i * 133) (part 132 0 rec) → next ≡ set mid (i * 133 + 132) 10
+      → whole ≡ stored_from f l s next (i + 1)
+  unfolding stored_from in_use
   stored_next out i {whole} {rec} w k r m n =
       let e : i * 133 + 133 ≡ (i + 1) * 133 = omega arith in
-      let d : drop i (in_use s) ≡ get_or s.at i 0 ∷ drop (i + 1) (in_use s) =
-      drop-cons (in_use s) i 0 (omega (arith, in_use-length s h a)) ∙ ap₂ (λ (x : ℕ) (xs : List ℕ). x ∷ xs) (source_at i k) (ap (λ (j : ℕ). drop j (in_use s)) (let z : suc i ≡ i + 1 = omega arith in z)) in
+      let d : drop i (take s.count s.at) ≡ get_or (take s.count s.at) i 0 ∷ drop (i + 1) (take s.count s.at) =
+      drop-cons (take s.count s.at) i 0 k ∙ ap (λ (j : ℕ). get_or (take s.count s.at) i 0 ∷ drop j (take s.count s.at)) (let z : suc i ≡ i + 1 = omega arith in z) in
       w ∙ ap (λ (xs : List ℕ). sets out (i * 133) (stored (map (record_at f l) xs))) d
-      ∙ ap (λ (q : List ℕ). sets out (i * 133) (stored (q ∷ map (record_at f l) (drop (i + 1) (in_use s))))) (sym r)
-      ∙ store_one rec (map (record_at f l) (drop (i + 1) (in_use s))) out (i * 133)
-      ∙ ap₂ (λ (x : List ℕ) (j : ℕ). sets x j (stored (map (record_at f l) (drop (i + 1) (in_use s))))) (sym (n ∙ ap (λ (x : List ℕ). set x (i * 133 + 132) 10) m)) e
+      ∙ ap (λ (q : List ℕ). sets out (i * 133) (stored (q ∷ map (record_at f l) (drop (i + 1) (take s.count s.at))))) (sym r)
+      ∙ store_one rec (map (record_at f l) (drop (i + 1) (take s.count s.at))) out (i * 133)
+      ∙ ap₂ (λ (x : List ℕ) (j : ℕ). sets x j (stored (map (record_at f l) (drop (i + 1) (take s.count s.at))))) (sym (n ∙ ap (λ (x : List ℕ). set x (i * 133 + 132) 10) m)) e
 
 -- ---- the whole file
 

@@ -186,7 +186,7 @@ module _ (f l : List ℕ) (n : ℕ) (es : List Entry) (b : ByCorrection n es) wh
         by k m (suc p) e s o y =
             in_set (suc p) (t.closed (suc m) (suc p) y (record {
               line = k;
-              named = sym e ∙ names of relied (suc m) k refl (both (eq-eqb (get_or of k 0) (suc m) o) (lt-ltb (get_or relied k 0) (suc m) s));
+              named = sym e ∙ (names of relied (suc m) k refl refl (both (both (eq-eqb (get_or of k 0) (suc m) o) (lt-ltb (get_or relied k 0) (suc m) s)) (lt-ltb 0 (get_or relied k 0) (omega (arith, e))))).1;
               some = omega arith;
             }))
 

@@ -1,11 +1,12 @@
 -- Where a log fails: its refusal, with the line that can't be applied, or the route that is refused.
 -- Assumes nothing.
-use Rattle.refusals.specs.Table.{Verdict}
-use Rattle.std.specs.Prelude.{ℕ, zero, suc, cond, List, [], ◌∷◌, eqb, take, Ok, Err}
+use Rattle.refusals.specs.Table.{Verdict, Accepted, Refused}
+use Rattle.std.specs.Prelude.{ℕ, zero, suc, cond, List, [], ◌∷◌, eqb, take, Result, Ok, Err}
 use Rattle.corrections.specs.Reading.{Entry, Reading, refused, said}
 use Rattle.applying.specs.Correct.{no_more, Outcome, stopped, reached, fault_as}
+use Rattle.refusals.specs.declared.Refusal.{Refusal}
 use Rattle.applying.specs.declared.Fault.{Fault}
-use Rattle.selection.specs.Pick.{opened, wanted_stage, everything, outcome_verdict, carried, outcome_of}
+use Rattle.selection.specs.Pick.{opened, wanted_stage, everything, carried, outcome_of}
 use Rattle.selection.specs.declared.Failure.{Failure}
 
 -- how many of some bytes are line feeds
@@ -18,16 +19,22 @@ unfoldable pub line_at : (log : List ℕ) (at : ℕ) → ℕ
 line_at log zero = 0
 line_at log (suc at) = suc (line_feeds (take (suc at) log))
 
--- an outcome over a log, as the code gives it
-abbrev pub failure_with : (log : List ℕ) → Verdict → Fault → Failure
-failure_with log verdict fault = record { verdict = verdict; line = line_at log fault.at; fault = fault }
+-- a refusal with what is wrong, as the code gives it; and one of which no more is known
+abbrev pub failure_with : (log : List ℕ) → Refusal → Fault → Failure
+failure_with log r fault = record { refusal = r; line = line_at log fault.at; fault = fault }
 
-abbrev pub fault_of : Outcome → Fault
-fault_of (stopped r w) = fault_as w
-fault_of (reached xs) = fault_as no_more
+abbrev pub failure_by : Refusal → Failure
+failure_by r = record { refusal = r; line = 0; fault = fault_as no_more }
 
-unfoldable pub failure_as : (log : List ℕ) → Outcome → Failure
-failure_as log o = failure_with log (outcome_verdict o) (fault_of o)
+-- an outcome over a log
+unfoldable pub failure_as : (log : List ℕ) → Outcome → Result Unit Failure
+failure_as log (stopped r w) = Err (failure_with log r (fault_as w))
+failure_as log (reached xs) = Ok tt
+
+-- whether it fails, and by which refusal
+abbrev pub verdict_of : Result Unit Failure → Verdict
+verdict_of (Ok _) = Accepted
+verdict_of (Err x) = Refused x.refusal
 
 abbrev pub judged_then : Verdict → Outcome → Outcome
 judged_then (Ok _) o = o
@@ -35,7 +42,7 @@ judged_then (Err r) o = stopped r no_more
 
 module _ (frozen log : List ℕ) where
   -- where a log fails over its frozen file
-  unfoldable pub failure_of : Failure
+  unfoldable pub failure_of : Result Unit Failure
   failure_of = failure_as log (outcome_of frozen log (opened frozen log))
 
   -- the same with the wanted numbers judged before the corrections

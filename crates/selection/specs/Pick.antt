@@ -1,6 +1,6 @@
 -- The pick: what is refused and in which order, the corrections taken, and the records of the new file by their sources.
 -- Assumes nothing.
-use Rattle.std.specs.Prelude.{ℕ, zero, suc, ◌+◌, ◌≡◌, true, cond, ◌||◌, List, [], ◌∷◌, ◌++◌, map, eqb, ltb, length, get_or, Ok, Err}
+use Rattle.std.specs.Prelude.{ℕ, zero, suc, ◌+◌, ◌≡◌, true, cond, ◌||◌, List, [], ◌∷◌, ◌++◌, map, eqb, ltb, length, get_or, Result, Ok, Err}
 use Rattle.std.proofs.lemmas.List.Edits.{sets}
 use Rattle.slices.specs.Part.{part, member, padded}
 use Rattle.refusals.specs.Table.{log_too_long, not_in_log, buffer_too_short, Verdict, Accepted, Refused}
@@ -33,6 +33,11 @@ if_accepted (Err r) reading = refused r
 -- "13 for length, 2, the file, the log line by line"
 unfoldable pub opened : (frozen log : List ℕ) → Reading
 opened frozen log = if_accepted (in_turn (length_stage log ∷ file_verdict frozen ∷ [])) (read_log log (length (records frozen)))
+
+-- the refusal, or the index
+abbrev pub opening_of : Reading → Result Index Refusal
+opening_of (refused r) = Err r
+opening_of (said n es) = Ok (index_of (said n es))
 
 -- an index holds what was read of a log, beside so many frozen records
 pub record Reads (log : List ℕ) (index : Index) : Type 0 where

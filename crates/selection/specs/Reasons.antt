@@ -1,8 +1,8 @@
 -- Why each correction is taken: it is wanted; or the smallest correction taken that relies on it directly, by the first line of that one whose
 -- route it was the last earlier correction to touch.
 -- Assumes nothing.
-use Rattle.refusals.specs.Table.{Accepted}
-use Rattle.std.specs.Prelude.{ℕ, zero, suc, ◌+◌, ◌-◌, ◌<◌, ◌≡◌, Bool, cond, ◌&&◌, List, [], ◌∷◌, ◌++◌, map, eqb, length, get_or, take, replicate}
+use Rattle.std.specs.Prelude.{ℕ, zero, suc, ◌+◌, ◌-◌, ◌<◌, ◌≡◌, Bool, cond, ◌&&◌, List, [], ◌∷◌, ◌++◌, map, eqb, length, get_or, take, replicate, Result, Ok, Err, Some, None, unwrap_or}
+use Rattle.std.specs.Prelude as std
 use Rattle.std.proofs.Math.Option.{Option, none, some}
 use Rattle.slices.specs.Part.{padded}
 use Rattle.history.specs.Apply.{Correction}
@@ -12,10 +12,10 @@ use Rattle.corrections.specs.declared.Index.{Index}
 use Rattle.routes.specs.Places.{key_of}
 use Rattle.routes.specs.Sources.{log_source}
 use Rattle.applying.specs.Apply.{lines_of, record_of_line, source_of}
-use Rattle.applying.specs.Correct.{Outcome, stopped, reached}
+use Rattle.applying.specs.Correct.{Outcome, stopped, reached, fault_as}
 use Rattle.applying.specs.Procedures.{procedures, operations}
 use Rattle.applying.specs.Run.{by_correction, marked}
-use Rattle.selection.specs.Failing.{failure_as, settled}
+use Rattle.selection.specs.Failing.{failure_with, failure_as, settled}
 use Rattle.selection.specs.Pick.{opened, wants, members_from, taken_of}
 use Rattle.selection.specs.Reliance.{reliances}
 use Rattle.selection.specs.declared.Failure.{Failure}
@@ -65,61 +65,63 @@ module _ (frozen log : List ℕ) where
   unfoldable pub reasons_of : (wanted : List ℕ) → List Reason
   reasons_of ws = reasons_from ws (opened frozen log)
 
--- ---- as the code gives it: zeros where a correction is wanted, past the count, and on a refusal
+-- ---- as the code gives it: zeros where a correction is wanted, and past the count
 
-abbrev pub naming_as : Option Entry → Naming
-naming_as none = record { relying = 0; source = 0 }
-naming_as (some e) = record { relying = e.correction; source = source_of e }
+abbrev pub no_naming : Naming
+no_naming = record { relying = 0; source = 0 }
+
+abbrev pub naming_as : Option Entry → std.Option Naming
+naming_as none = None
+naming_as (some e) = Some (record { relying = e.correction; source = source_of e })
 
 abbrev pub relying_of : Reason → ℕ
-relying_of r = (naming_as r.line).relying
+relying_of r = (unwrap_or (naming_as r.line) no_naming).relying
 
 abbrev pub relying_source : Reason → ℕ
-relying_source r = (naming_as r.line).source
+relying_source r = (unwrap_or (naming_as r.line) no_naming).source
 
-unfoldable pub reasons_with : Failure → List Reason → Explained
-reasons_with failure rs = record {
-  failure = failure;
+unfoldable pub reasons_with : List Reason → Explained
+reasons_with rs = record {
   count = length rs;
   taken = padded 200 (map (λ (r : Reason). r.correction) rs);
   relying = padded 200 (map relying_of rs);
   source = padded 200 (map relying_source rs);
 }
 
-abbrev pub reasons_as : (log : List ℕ) → Outcome → List Reason → Explained
-reasons_as log o rs = reasons_with (failure_as log o) rs
+-- or the refusal, and no reasons
+unfoldable pub reasons_as : (log : List ℕ) → Outcome → List Reason → Result Explained Failure
+reasons_as log (stopped r w) rs = Err (failure_with log r (fault_as w))
+reasons_as log (reached xs) rs = Ok (reasons_with rs)
 
 -- ---- as the code finds it
 
--- what is settled, and where nothing is refused, what each line relies on and the corrections taken
+-- the whole log runs; and what each line relies on, and the corrections taken
 pub record Chooses (frozen log : List ℕ) (index : Index) (wanted : List ℕ) (c : Chosen) : Type 0 where
-  pub settles : c.failure ≡ failure_as log (settled frozen log wanted index.corrections (lines_of index))
-  pub relies : c.failure.verdict ≡ Accepted → c.relied ≡ reliances frozen log index 0 index.count ++ replicate (444 - index.count) 0
-  pub takes : c.failure.verdict ≡ Accepted → (i : ℕ) → i < index.corrections
-      → marked c.marks (1 + i) ≡ taken_of frozen log index.corrections (lines_of index) wanted (1 + i)
+  pub settles : failure_as log (settled frozen log wanted index.corrections (lines_of index)) ≡ Ok tt
+  pub relies : c.relied ≡ reliances frozen log index 0 index.count ++ replicate (444 - index.count) 0
+  pub takes : (i : ℕ) → i < index.corrections → marked c.marks (1 + i) ≡ taken_of frozen log index.corrections (lines_of index) wanted (1 + i)
 
 -- the marks are those of the wanted numbers
 abbrev pub Asked : (wanted marks : List ℕ) → Type 0
 Asked ws marks = (i : ℕ) → i < 201 → marked marks i ≡ wants ws i
 
 -- the first of n lines from k on that is of a marked correction and names p. `relied` has what each line names.
-unfoldable pub named_from : Index → (relied marks : List ℕ) (p k n : ℕ) → Naming
-named_from index relied marks p k zero = naming_as none
+unfoldable pub named_from : Index → (relied marks : List ℕ) (p k n : ℕ) → std.Option Naming
+named_from index relied marks p k zero = None
 named_from index relied marks p k (suc n) =
     cond (marked marks (get_or index.correction k 0) && eqb (get_or relied k 0) p)
-    (record { relying = get_or index.correction k 0; source = log_source (get_or index.at k 0) })
+    (Some (record { relying = get_or index.correction k 0; source = log_source (get_or index.at k 0) }))
     (named_from index relied marks p (k + 1) n)
 
--- nothing for a number that is asked for
-abbrev pub named_unless : Index → (relied marks asked : List ℕ) (p : ℕ) → Naming
-named_unless index relied marks asked p = cond (marked asked p) (naming_as none) (named_from index relied marks p 0 index.count)
+-- none for a number that is asked for
+abbrev pub named_unless : Index → (relied marks asked : List ℕ) (p : ℕ) → std.Option Naming
+named_unless index relied marks asked p = cond (marked asked p) None (named_from index relied marks p 0 index.count)
 
 -- the same of some numbers
-unfoldable pub named_with : Failure → Index → (relied marks asked : List ℕ) → Members → Explained
-named_with failure index relied marks asked m =
-    let named : ℕ → Naming = named_unless index relied marks asked in
+unfoldable pub named_with : Index → (relied marks asked : List ℕ) → Members → Explained
+named_with index relied marks asked m =
+    let named : ℕ → Naming = λ p. unwrap_or (named_unless index relied marks asked p) no_naming in
     record {
-      failure = failure;
       count = m.count;
       taken = m.at;
       relying = padded 200 (map (λ (p : ℕ). (named p).relying) (take m.count m.at));

@@ -6,6 +6,7 @@ use Rattle.slices.specs.Order.{equal}
 use Rattle.routes.specs.Places.{key_of}
 use Rattle.corrections.specs.Reading.{Entry}
 use Rattle.corrections.specs.declared.Index.{Index}
+use Rattle.selection.specs.declared.relied.Span.{Span}
 use Rattle.applying.specs.Apply.{entry_at, entries_from, record_of_line}
 
 -- ---- one line
@@ -21,10 +22,6 @@ module _ (frozen log : List ℕ) where
   unfoldable pub relied_by : Index → ℕ → ℕ
   relied_by index k = last_before (entry_at index k).correction (key_of (record_of_line frozen log (entry_at index k))) 0 (entries_from index 0 k)
 
-  -- r is that of every index whose lines lie at these places, and are of these corrections
-  abbrev pub ReliedOn : (ats of : List ℕ) (k r : ℕ) → Type 0
-  ReliedOn ats of k r = (index : Index) → index.at ≡ ats → index.correction ≡ of → r ≡ relied_by index k
-
   -- the same of n lines from k on
   unfoldable pub reliances : Index → (k n : ℕ) → List ℕ
   reliances index k zero = []
@@ -37,13 +34,14 @@ module _ (frozen log : List ℕ) where
 unfoldable pub named_by : (of relied : List ℕ) (c k : ℕ) → ℕ
 named_by of relied c k = cond (eqb (get_or of k 0) c && ltb (get_or relied k 0) c) (get_or relied k 0) 0
 
--- no line of a correction that can be marked stands before the first line that a table has for it; none stands at the end that another has, or
--- behind it
-unfoldable pub NoneBefore : (of firsts : List ℕ) → Type 0
-NoneBefore of firsts = (k : ℕ) → k < length of → get_or of k 0 < 201 → get_or firsts (get_or of k 0) 0 ≤ k
+-- every line of a correction that can be marked stands within the span that a table has for it
+abbrev pub no_span : Span
+no_span = record { first = 0; end = 0 }
 
-unfoldable pub NoneBehind : (of ends : List ℕ) → Type 0
-NoneBehind of ends = (k : ℕ) → k < length of → get_or of k 0 < 201 → k < get_or ends (get_or of k 0) 0
+abbrev pub Spans : (of : List ℕ) (spans : List Span) → Type 0
+Spans of spans =
+    (k : ℕ) → k < length of → get_or of k 0 < 201
+    → ((get_or spans (get_or of k 0) no_span).first ≤ k) × (k < (get_or spans (get_or of k 0) no_span).end)
 
 -- correction c relies on correction p
 pub record Relies (of relied : List ℕ) (c p : ℕ) : Type 0 where

@@ -1,34 +1,34 @@
-// What the corrections taken make of the frozen records. Assumes of its callers, all in this crate, that the index is that of a log which was
-// read, or opened with its frozen file; `carry` that what is marked is not refused, which is so of what is taken from an accepted log.
-ghost use Rattle.std.specs.Prelude.{◌≡◌, cond, [], ◌∷◌, ◌+◌, ◌≤◌, ◌<◌};
+// What the corrections taken make of the frozen records. `carry` assumes of its caller that what is marked is not refused, which is so of what
+// is taken from an accepted log; the rest assumes nothing.
+ghost use Rattle.std.specs.Prelude.{◌≡◌, [], ◌∷◌, ◌≤◌, ◌<◌, MatchResult};
 ghost use Rattle.applying.specs.Apply.{lines_of};
 ghost use Rattle.applying.specs.Run.{marked};
-ghost use Rattle.selection.specs.Pick.{
-  Reads,
-  Opens,
-  Carries,
-  members_from,
-  with_members,
-  members_as,
-  refused_by,
-  pick_by,
-  pick_from,
-  picked_as,
-};
-ghost use Rattle.corrections.specs.Reading.{said};
+ghost use Rattle.selection.specs.Pick.{Carries, members_from, with_members, members_as, refused_by, pick_by, pick_of, picked_as};
 
 use crate::Picked;
-use crate::choosing::choose;
+use crate::opening::Opened;
 use applying::{is_marked, run_unjudged};
-use corrections::{Index, MOST_CORRECTIONS};
-use refusals::{MOST_RECORDS, Refusal, Verdict};
-use routes::{Sources, sources_of};
+use corrections::MOST_CORRECTIONS;
+use refusals::{MOST_RECORDS, Refusal};
+use routes::{Sources, Texts, sources_of};
 
-// Some numbers in rising order, with zeros past them.
-#[derive(Clone, Copy)]
+// Some numbers in rising order, with zeros past them. An array with its count, since a pick and the reasons give the numbers so: a vector of
+// fixed size would only be copied out into these.
+#[derive(Clone, Copy, Debug, PartialEq, Eq)]
 pub(crate) struct Members {
     pub count: usize,
     pub at: [u32; MOST_CORRECTIONS],
+}
+
+impl Members {
+    // Puts a number behind the others.
+    fn push(&mut self, n: usize)
+        requires { (self.old.count < 200) × (n ≤ 200) }
+        ensures { self.new ≡ with_members self.old (n ∷ []) }
+    {
+        self.at[self.count] = n as u32;
+        self.count += 1;
+    }
 }
 
 // The pick that is refused: nothing but zeros beside the refusal.
@@ -38,27 +38,12 @@ pub(crate) fn refused_pick(refusal: Refusal) -> Picked
     Picked {
         verdict: Err(refusal),
         count: 0,
-        taken: [0u32; MOST_CORRECTIONS],
+        taken: [0; MOST_CORRECTIONS],
         records: Sources {
             count: 0,
-            at: [0u32; MOST_RECORDS],
+            at: [0; MOST_RECORDS],
         },
     }
-}
-
-// The numbers with one more behind them, if it is marked.
-fn with_number(found: Members, n: usize, marked: bool) -> Members
-    requires { (found.count < 200) × (n ≤ 200) }
-    ensures { result ≡ with_members found (cond marked (n ∷ []) []) }
-{
-    if !marked {
-        return found;
-    }
-    let i = found.count;
-    let mut next = found;
-    next.at[i] = n as u32;
-    next.count = i + 1;
-    next
 }
 
 // The marked numbers from 1 up to a total.
@@ -68,51 +53,52 @@ pub(crate) fn members_of(marks: &[u8], total: usize) -> Members
 {
     let mut found = Members {
         count: 0,
-        at: [0u32; MOST_CORRECTIONS],
+        at: [0; MOST_CORRECTIONS],
     };
-    let mut n = 0;
-    while n < total {
-        let marked = is_marked(marks, n + 1);
-        let next = with_number(found, n + 1, marked);
-        found = next;
-        n += 1;
+    for n in 0..total {
+        if is_marked(marks, n + 1) {
+            found.push(n + 1);
+        }
     }
     found
 }
 
-// What the marked corrections make of the frozen records, where it is known that none of them is refused. So their lines are applied, and no
-// route is judged again.
-fn carry<'a>(frozen: &'a [u8], log: &'a [u8], index: Index, marks: &[u8]) -> Picked
-    requires { Reads log.now index × Carries frozen.now log.now marks.now index }
-    ensures { result ≡ picked_as (pick_by frozen.now log.now (marked marks.now) index.corrections (lines_of index)) }
-{
-    let state = sources_of(frozen);
-    let new = run_unjudged(frozen, log, index, marks, state);
-    let members = members_of(marks, index.corrections);
-    let records = new.records;
-    let numbers = members.at;
-    Picked {
-        verdict: Ok(()),
-        count: members.count,
-        taken: numbers,
-        records: records,
+impl Opened<'_> {
+    // What the marked corrections make of the frozen records, where it is known that none of them is refused. So their lines are applied, and
+    // no route is judged again.
+    fn carry(&self, marks: &[u8]) -> Picked
+        requires { Carries self.now.texts.frozen.now self.now.texts.log.now marks.now self.now.index }
+        ensures { result ≡ picked_as
+            (pick_by self.now.texts.frozen.now self.now.texts.log.now (marked marks.now) self.now.index.corrections (lines_of self.now.index)) }
+    {
+        let Texts { frozen, log } = self.texts;
+        let new = run_unjudged(frozen, log, self.index, marks, sources_of(frozen));
+        let members = members_of(marks, self.index.corrections);
+        let taken = members.at;
+        Picked {
+            verdict: Ok(()),
+            count: members.count,
+            taken,
+            records: new.records,
+        }
+    }
+
+    // The pick: 12, then the whole log; then the wanted corrections and those that they rely on, alone.
+    fn pick(&self, wanted: &[u32]) -> Result<Picked, Refusal>
+        ensures { MatchResult result
+            (λ p. p ≡ picked_as (pick_of self.now.texts.frozen.now self.now.texts.log.now wanted.now))
+            (λ r. pick_of self.now.texts.frozen.now self.now.texts.log.now wanted.now ≡ refused_by r) }
+    {
+        let chosen = self.choose(wanted).map_err(|failure| failure.refusal)?;
+        Ok(self.carry(&chosen.marks))
     }
 }
 
-// The pick once a file and a log are open: 12, then the whole log; then the wanted corrections and those that they rely on, alone.
-pub(crate) fn pick_from<'a>(frozen: &'a [u8], log: &'a [u8], index: Index, wanted: &[u32]) -> Picked
-    requires { Opens frozen.now log.now index }
-    ensures { result ≡ picked_as (pick_from frozen.now log.now wanted.now (said index.corrections (lines_of index))) }
+// The same, or the refusal of what can't be opened.
+pub(crate) fn pick_from(texts: Texts<'_>, wanted: &[u32]) -> Result<Picked, Refusal>
+    ensures { MatchResult result (λ p. p ≡ picked_as (pick_of texts.entry.frozen.now texts.entry.log.now wanted.now))
+        (λ r. pick_of texts.entry.frozen.now texts.entry.log.now wanted.now ≡ refused_by r) }
 {
-    let chosen = choose(frozen, log, index, wanted);
-    let failure = chosen.failure;
-    let verdict = failure.verdict;
-    match verdict {
-        Ok(()) => {}
-        Err(r) => {
-            return refused_pick(r);
-        }
-    }
-    let marks = chosen.marks;
-    carry(frozen, log, index, &marks)
+    let opened = Opened::new(texts)?;
+    opened.pick(wanted)
 }

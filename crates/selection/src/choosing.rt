@@ -1,35 +1,36 @@
 // What is settled before corrections are carried into the frozen file: the refusal, with what is wrong; or what each line relies on, and which
-// corrections are taken. Assumes of its callers, all in this crate, that the index is that of a log which was read.
-ghost use Rattle.std.specs.Prelude.{◌≡◌, cond, ◌+◌, ◌<◌};
+// corrections are taken. Assumes nothing.
+ghost use Rattle.std.specs.Prelude.{◌≡◌, Err, MatchResult};
 ghost use Rattle.applying.specs.Apply.{lines_of};
-ghost use Rattle.applying.specs.Correct.{no_more, stopped};
-ghost use Rattle.selection.specs.Pick.{Reads, everything, carried};
-ghost use Rattle.selection.specs.Failing.{line_at, failure_as};
+ghost use Rattle.selection.specs.Failing.{line_at, failure_by, failure_as, failure_of, settled};
 ghost use Rattle.selection.specs.Reasons.{Chooses};
 
 use crate::Failure;
-use crate::opening::within;
-use crate::relied::{MARKS, reliances, taken};
+use crate::opening::{Opened, within};
+use crate::relied::{MARKS, taken};
 use applying::{no_fault, run};
-use corrections::{Index, MOST_CHANGES};
-use refusals::{Refusal, Verdict};
-use routes::sources_of;
-use slices::least;
+use corrections::MOST_CHANGES;
+use refusals::Refusal;
+use routes::{Texts, sources_of};
 
-// What is settled; the rest is nothing but zeros where that is a refusal.
-#[derive(Clone, Copy)]
+// What each line of an accepted log relies on, and a mark for each correction that is taken.
+#[derive(Clone, Copy, Debug, PartialEq, Eq)]
 pub(crate) struct Chosen {
-    pub failure: Failure,
     pub relied: [u32; MOST_CHANGES],
     pub marks: [u8; MARKS],
 }
 
-// One more, where it counts.
-fn counted(n: usize, counts: bool) -> usize
-    requires { n < 18446744073709551615 }
-    ensures { result ≡ cond counts (n + 1) n }
-{
-    if counts { n + 1 } else { n }
+// A refusal of which no more is known.
+impl From<Refusal> for Failure {
+    ghost from_gives = { λ r f. f ≡ failure_by r };
+
+    fn from(refusal: Refusal) -> Self {
+        Failure {
+            refusal,
+            line: 0,
+            fault: no_fault(),
+        }
+    }
 }
 
 // The number of the line that an offset of the log is in, from 1 on; 0 for the offset 0, where no record lies.
@@ -39,82 +40,35 @@ fn line_at(log: &[u8], at: u32) -> usize
     if at == 0 {
         return 0;
     }
-    let end = least(at as usize, log.len());
-    let mut line: usize = 1;
-    let mut i: usize = 0;
-    while i < end {
-        line = counted(line, log[i] == 10);
-        i += 1;
-    }
-    line
+    let before = &log[..log.len().min(at as usize)];
+    1 + before.iter().filter(|b| **b == b'\n').count()
 }
 
-// A refusal of which no more is known.
-pub(crate) fn failure_by(log: &[u8], refusal: Refusal) -> Failure
-    ensures { result ≡ failure_as log.now (stopped refusal no_more) }
-{
-    let fault = no_fault();
-    Failure {
-        verdict: Err(refusal),
-        line: 0,
-        fault: fault,
+impl Opened<'_> {
+    // The verdict over the whole log, correction by correction 10, 11, with what is wrong.
+    pub(crate) fn whole(&self) -> Result<(), Failure>
+        ensures { result ≡ failure_of self.now.texts.frozen.now self.now.texts.log.now }
+    {
+        let Texts { frozen, log } = self.texts;
+        let all = run(frozen, log, self.index, &[1; MARKS], sources_of(frozen));
+        all.verdict.map_err(|refusal| Failure {
+            refusal,
+            line: line_at(log, all.fault.at),
+            fault: all.fault,
+        })
     }
-}
 
-// The verdict over the whole log, correction by correction 10, 11, with what is wrong.
-pub(crate) fn whole<'a>(frozen: &'a [u8], log: &'a [u8], index: Index) -> Failure
-    requires { Reads log.now index }
-    ensures { result ≡ failure_as log.now (carried frozen.now log.now everything index.corrections (lines_of index)) }
-{
-    let marks = [1u8; MARKS];
-    let state = sources_of(frozen);
-    let all = run(frozen, log, index, &marks, state);
-    let verdict = all.verdict;
-    let fault = all.fault;
-    let line = line_at(log, fault.at);
-    Failure {
-        verdict: verdict,
-        line: line,
-        fault: fault,
-    }
-}
-
-// Settles 12, then the whole log; then finds the wanted corrections and those that they rely on.
-pub(crate) fn choose<'a>(frozen: &'a [u8], log: &'a [u8], index: Index, wanted: &[u32]) -> Chosen
-    requires { Reads log.now index }
-    ensures { Chooses frozen.now log.now index wanted.now result }
-{
-    let total = index.corrections;
-    let judged = within(total, wanted);
-    match judged {
-        Ok(()) => {}
-        Err(r) => {
-            let failure = failure_by(log, r);
-            return Chosen {
-                failure: failure,
-                relied: [0u32; MOST_CHANGES],
-                marks: [0u8; MARKS],
-            };
-        }
-    }
-    let failure = whole(frozen, log, index);
-    let verdict = failure.verdict;
-    match verdict {
-        Ok(()) => {}
-        Err(_) => {
-            return Chosen {
-                failure: failure,
-                relied: [0u32; MOST_CHANGES],
-                marks: [0u8; MARKS],
-            };
-        }
-    }
-    let relied = reliances(frozen, log, index);
-    let of = index.correction;
-    let marks = taken(&of, &relied, wanted);
-    Chosen {
-        failure: failure,
-        relied: relied,
-        marks: marks,
+    // Settles 12, then the whole log; then finds the wanted corrections and those that they rely on.
+    pub(crate) fn choose(&self, wanted: &[u32]) -> Result<Chosen, Failure>
+        ensures { MatchResult result (Chooses self.now.texts.frozen.now self.now.texts.log.now self.now.index wanted.now)
+            (λ x. failure_as self.now.texts.log.now
+            (settled self.now.texts.frozen.now self.now.texts.log.now wanted.now self.now.index.corrections (lines_of self.now.index))
+            ≡ Err x) }
+    {
+        within(self.index.corrections, wanted)?;
+        self.whole()?;
+        let relied = self.reliances();
+        let marks = taken(&self.index.correction, &relied, wanted);
+        Ok(Chosen { relied, marks })
     }
 }

@@ -21,16 +21,15 @@ ghost use Rattle.selection.specs.Reasons.{reasons_of, reasons_as};
 
 use applying::Fault;
 use carry::{pick_from, refused_pick};
-use choosing::{failure_by, whole};
 use corrections::MOST_CORRECTIONS;
-use explaining::{no_reasons, reasons_from};
 use file::write_records;
-use opening::opening;
+use opening::Opened;
 use refusals::{MOST_RECORDS, Refusal, Verdict};
-use routes::{LONGEST_FILE, Sources, record_at};
+use routes::{LONGEST_FILE, Sources, Texts, record_at};
 
 // What a pick comes to. `count` is how many corrections are taken, `taken` their numbers in rising order, `records` where the records of the
-// new file lie; zeros past each count, and nothing but zeros on a refusal.
+// new file lie; zeros past each count, and nothing but zeros on a refusal. The verdict stands beside them, and not around them: `line_of` takes
+// a pick whoever made it, also one that is refused and has sources.
 #[derive(Clone, Copy)]
 pub struct Picked {
     pub verdict: Verdict,
@@ -39,22 +38,21 @@ pub struct Picked {
     pub records: Sources,
 }
 
-// Where a log fails: the verdict, and what is wrong where it is 10 or 11. For 10 `line` is the line of the log that can't be applied, counted
+// Where a log fails: the refusal, and what is wrong where it is 10 or 11. For 10 `line` is the line of the log that can't be applied, counted
 // from 1, and `fault.at` the offset of its record; for 11 `fault` has the route that is refused, where its records lie, and its own refusal.
 // Nothing but zeros otherwise.
 #[derive(Clone, Copy)]
 pub struct Failure {
-    pub verdict: Verdict,
+    pub refusal: Refusal,
     pub line: usize,
     pub fault: Fault,
 }
 
 // Why corrections are taken. `count` is how many are, `taken` their numbers in rising order. Of each that is not wanted `relying` is the smallest
 // correction taken that relies on it directly, and `source` where the record lies of the first line of that one whose route it was the last
-// earlier correction to touch; both are 0 of one that is wanted. Zeros past the count, and nothing but zeros beside a refusal.
+// earlier correction to touch; both are 0 of one that is wanted. Zeros past the count.
 #[derive(Clone, Copy)]
 pub struct Explained {
-    pub failure: Failure,
     pub count: usize,
     pub taken: [u32; MOST_CORRECTIONS],
     pub relying: [u32; MOST_CORRECTIONS],
@@ -63,15 +61,11 @@ pub struct Explained {
 
 // Checks a log against its frozen file, and says where it fails: 13 for the log's length, 2 and the rest of the file, the log's lines, then
 // correction by correction 10 and 11.
-pub fn failing<'a>(frozen: &'a [u8], log: &'a [u8]) -> Failure
+pub fn failing<'a>(frozen: &'a [u8], log: &'a [u8]) -> Result<(), Failure>
     ensures { result ≡ failure_of frozen.now log.now }
 {
-    let index = opening(frozen, log);
-    let opened = index.verdict;
-    match opened {
-        Ok(()) => whole(frozen, log, index),
-        Err(r) => failure_by(log, r),
-    }
+    let opened = Opened::new(Texts { frozen, log })?;
+    opened.whole()
 }
 
 // Checks a log against its frozen file: 13 for the log's length, 2 and the rest of the file, the log's lines, then correction by correction
@@ -79,33 +73,26 @@ pub fn failing<'a>(frozen: &'a [u8], log: &'a [u8]) -> Failure
 pub fn check_log<'a>(frozen: &'a [u8], log: &'a [u8]) -> Verdict
     ensures { result ≡ log_verdict frozen.now log.now }
 {
-    let whole = failing(frozen, log);
-    whole.verdict
+    failing(frozen, log).map_err(|failure| failure.refusal)
 }
 
 // Picks the wanted corrections and those that they rely on, and no others: the log is checked as above, with 12 before 10 and 11.
 pub fn pick<'a>(frozen: &'a [u8], log: &'a [u8], wanted: &[u32]) -> Picked
     ensures { result ≡ picked_as (pick_of frozen.now log.now wanted.now) }
 {
-    let index = opening(frozen, log);
-    let opened = index.verdict;
-    match opened {
-        Ok(()) => pick_from(frozen, log, index, wanted),
-        Err(r) => refused_pick(r),
+    match pick_from(Texts { frozen, log }, wanted) {
+        Ok(picked) => picked,
+        Err(refusal) => refused_pick(refusal),
     }
 }
 
 // Says why each correction is taken that `pick` takes; or its refusal, with what is wrong.
-pub fn reasons<'a>(frozen: &'a [u8], log: &'a [u8], wanted: &[u32]) -> Explained
+pub fn reasons<'a>(frozen: &'a [u8], log: &'a [u8], wanted: &[u32]) -> Result<Explained, Failure>
     ensures { result ≡ reasons_as log.now (settled_of frozen.now log.now wanted.now)
         (reasons_of frozen.now log.now wanted.now) }
 {
-    let index = opening(frozen, log);
-    let opened = index.verdict;
-    match opened {
-        Ok(()) => reasons_from(frozen, log, index, wanted),
-        Err(r) => no_reasons(failure_by(log, r)),
-    }
+    let opened = Opened::new(Texts { frozen, log })?;
+    opened.reasons(wanted)
 }
 
 // A pick with the new file's bytes in a buffer: 14 where fewer than 63,840 bytes are lent. Zeros past the file; on every refusal the whole
@@ -113,13 +100,12 @@ pub fn reasons<'a>(frozen: &'a [u8], log: &'a [u8], wanted: &[u32]) -> Explained
 pub fn new_file<'a>(frozen: &'a [u8], log: &'a [u8], wanted: &[u32], out: &mut [u8]) -> Picked
     ensures { FileMade frozen.now log.now wanted.now out.old out.new result }
 {
-    slices::clear(&mut *out);
+    slices::clear(out);
     if out.len() < LONGEST_FILE {
         return refused_pick(Refusal::buffer_too_short());
     }
     let picked = pick(frozen, log, wanted);
-    let records = picked.records;
-    write_records(frozen, log, records, &mut *out);
+    write_records(Texts { frozen, log }, &picked.records, out);
     picked
 }
 
@@ -128,19 +114,14 @@ pub fn new_file<'a>(frozen: &'a [u8], log: &'a [u8], wanted: &[u32], out: &mut [
 pub fn line_in<'a>(frozen: &'a [u8], log: &'a [u8], records: Sources, n: usize) -> &'a [u8]
     ensures { result.now ≡ line_in frozen.now log.now records n }
 {
-    let count = records.count;
     if n == 0 {
-        return &frozen[0..0];
+        return &[];
     }
-    if count < n {
-        return &frozen[0..0];
+    let in_use = &records.at[..records.count.min(MOST_RECORDS)];
+    match in_use.get(n - 1) {
+        Some(source) => record_at(frozen, log, *source),
+        None => &[],
     }
-    if MOST_RECORDS < n {
-        return &frozen[0..0];
-    }
-    let i = n - 1;
-    let source = records.at[i];
-    record_at(frozen, log, source)
 }
 
 // The record of line n of a pick's new file, as a part of the frozen file or of the log. Empty for line 0, for a line past the end, and where
@@ -148,11 +129,9 @@ pub fn line_in<'a>(frozen: &'a [u8], log: &'a [u8], records: Sources, n: usize) 
 pub fn line_of<'a>(frozen: &'a [u8], log: &'a [u8], picked: Picked, n: usize) -> &'a [u8]
     ensures { result.now ≡ line_of_pick frozen.now log.now picked n }
 {
-    let verdict = picked.verdict;
-    let records = picked.records;
-    match verdict {
-        Ok(()) => line_in(frozen, log, records, n),
-        Err(_) => &frozen[0..0],
+    match picked.verdict {
+        Ok(()) => line_in(frozen, log, picked.records, n),
+        Err(_) => &[],
     }
 }
 
@@ -161,6 +140,5 @@ pub fn line_of<'a>(frozen: &'a [u8], log: &'a [u8], picked: Picked, n: usize) ->
 pub fn line<'a>(frozen: &'a [u8], log: &'a [u8], wanted: &[u32], n: usize) -> &'a [u8]
     ensures { result.now ≡ line_of_pick frozen.now log.now (picked_as (pick_of frozen.now log.now wanted.now)) n }
 {
-    let picked = pick(frozen, log, wanted);
-    line_of(frozen, log, picked, n)
+    line_of(frozen, log, pick(frozen, log, wanted), n)
 }

@@ -5,5 +5,5 @@ pub mod OrderLaws
 pub mod SearchLaws
 pub mod WriteLaws
 pub mod EveryLaws
-mod StdLaws
+pub mod StdLaws
 mod Turns

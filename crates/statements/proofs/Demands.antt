@@ -2,6 +2,7 @@
 -- does. Each is proved in the crate that it speaks of, or in OrderLaws; here they stand side by side. That every function ends on every input, and leaves in every byte what its
 -- contract says, is what the check of its contract means.
 -- Assumes nothing.
+use Rattle.std.specs.Prelude.{Err}
 use mathlib.Core.Path.{◌≡◌}
 use mathlib.Core.List.{List, [], ◌∷◌, ◌++◌, Memᴰ}
 use mathlib.Core.Logic.{◌↔◌, ◌⊎◌}
@@ -85,7 +86,7 @@ pub new_file_refused : (frozen log wanted : List ℕ) (lent : ℕ) (r : Refusal)
 new_file_refused = order.new_file_first
 
 pub answer_refused : (longest lent : ℕ) (answer : List ℕ) (r : Refusal)
-    → ((answered longest lent answer).verdict ≡ Refused r) ↔ First r (room_stage longest lent ∷ [])
+    → (answered longest lent answer ≡ Err r) ↔ First r (room_stage longest lent ∷ [])
 answer_refused = order.answer_first
 
 -- And the stages that look at many things one after the other: the records of a file or of a route, whatever is ahead of them, by the first
@@ -134,7 +135,7 @@ pub file_zeros : (frozen log : List ℕ) (lent : ℕ) (wanted : List ℕ) (r : R
     → padded lent (new_bytes frozen log (file_pick frozen log lent wanted)) ≡ replicate lent 0
 file_zeros = answers.file_refused
 
-pub answer_zeros : (longest lent : ℕ) (answer : List ℕ) (r : Refusal) → (answered longest lent answer).verdict ≡ Refused r
+pub answer_zeros : (longest lent : ℕ) (answer : List ℕ) (r : Refusal) → answered longest lent answer ≡ Err r
     → filled longest lent answer ≡ replicate lent 0
 answer_zeros = printed.zeros_where_refused
 

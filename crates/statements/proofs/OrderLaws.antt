@@ -47,6 +47,7 @@ use Rattle.selection.proofs.OpenedLaws.{said_opening}
 use Rattle.selection.proofs.PickSteps.{whole_picks}
 use Rattle.selection.proofs.Answers.{picked_not_refused}
 use Rattle.answers.specs.Answers.{answered}
+use Rattle.answers.proofs.Lengths.{never_both}
 use Rattle.statements.specs.Order.{record_order, companion_order, needed_stage, needed_order, read_order, room_stage, write_order, file_order, lines_stage, numbers_stage, corrections_stage, reading, check_order, pick_order, new_file_order, NotInLog, FirstWanted, at, behind, FirstCorrection, unapplied, route}
 
 -- ---- verdicts in turn
@@ -292,12 +293,12 @@ module _ (frozen log : List ℕ) where
 
 -- An answer of the programs is refused exactly where fewer bytes are lent than the longest one needs; a refused pick is an answer like any other.
 pub answer_first : (longest lent : ℕ) (answer : List ℕ) (r : Refusal)
-    → ((answered longest lent answer).verdict ≡ Refused r) ↔ First r (room_stage longest lent ∷ [])
+    → (answered longest lent answer ≡ Err r) ↔ First r (room_stage longest lent ∷ [])
 unfolding answered room_stage in_turn
-answer_first longest lent answer = by_order (room_stage longest lent ∷ []) given
+answer_first longest lent answer r = Iff.trans given (first_iff r (room_stage longest lent ∷ []))
   where
-    given : (answered longest lent answer).verdict ≡ in_turn (room_stage longest lent ∷ [])
-    given = split (ltb lent longest) (λ t. rw t) (λ t. rw t)
+    given : (answered longest lent answer ≡ Err r) ↔ (in_turn (room_stage longest lent ∷ []) ≡ Refused r)
+    given = split (ltb lent longest) (λ t. rw t (λ e. cc, λ e. cc)) (λ t. rw t (λ e. absurd (never_both e), λ e. absurd (never (sym e))))
 
 -- ---- the stages of a pick that look at many things
 

@@ -84,13 +84,13 @@ fn print_answers<'a>(
     print_number(to, number)?;
     print(to, b"\n")?;
     let picked = answers::pick_answer(frozen, log, want, lines);
-    print_first(to, lines, picked.length)?;
+    print_first(to, lines, picked.unwrap_or(0))?;
     let made = answers::newfile_answer(frozen, log, want, file);
-    print_file(to, file, made.length)?;
+    print_file(to, file, made.unwrap_or(0))?;
     let checked = answers::check_answer(frozen, log, lines);
-    print_first(to, lines, checked.length)?;
+    print_first(to, lines, checked.unwrap_or(0))?;
     let explained = answers::why_answer(frozen, log, want, lines);
-    print_first(to, lines, explained.length)
+    print_first(to, lines, explained.unwrap_or(0))
 }
 
 // The length that is stored at this place.

@@ -14,8 +14,8 @@
 
 ghost use Rattle.std.specs.Prelude.{◌≤◌, ◌<◌};
 
-use corrections::Index;
-use refusals::Verdict;
+use corrections::{Entry, Index};
+use refusals::Refusal;
 use std::io::{BufWriter, Write};
 use std::{fs, io};
 use wanted::Wanted;
@@ -28,33 +28,21 @@ fn print_number(to: &mut impl Write, n: usize) -> io::Result<()> {
     write!(to, "\t{n}")
 }
 
-// The first n of the columns of an index, line by line.
-fn print_lines(to: &mut impl Write, index: Index, n: usize) -> io::Result<()> {
-    let mut i: usize = 0;
-    while i < 444 {
-        if n <= i {
-            break;
-        }
-        let letter = index.kind[i];
-        let at = index.at[i];
-        let correction = index.correction[i];
-        print_number(to, letter as usize)?;
-        print_number(to, at as usize)?;
-        print_number(to, correction as usize)?;
-        i += 1;
-    }
-    Ok(())
+fn print_entry(to: &mut impl Write, entry: Entry) -> io::Result<()> {
+    print_number(to, entry.letter as usize)?;
+    print_number(to, entry.at as usize)?;
+    print_number(to, entry.correction as usize)
 }
 
-fn print_index(to: &mut impl Write, index: Index) -> io::Result<()> {
-    let verdict = index.verdict;
-    let count = index.count;
-    match verdict {
-        Ok(()) => {
+fn print_index(to: &mut impl Write, index: Result<Index, Refusal>) -> io::Result<()> {
+    match index {
+        Ok(index) => {
             print(to, b"yes")?;
             print_number(to, index.corrections)?;
-            print_number(to, count)?;
-            print_lines(to, index, count)?;
+            print_number(to, index.count)?;
+            for &entry in index.entries.iter().take(index.count) {
+                print_entry(to, entry)?;
+            }
         }
         Err(r) => {
             print(to, b"no")?;
@@ -69,34 +57,22 @@ fn print_index(to: &mut impl Write, index: Index) -> io::Result<()> {
 fn print_wanted(to: &mut impl Write, wanted: Wanted) -> io::Result<()> {
     print(to, b"want")?;
     print_number(to, wanted.count)?;
-    let n = wanted.count;
-    let mut i: usize = 0;
-    while i < 201 {
-        if n <= i {
-            break;
-        }
-        let number = wanted.at[i];
+    for &number in wanted.at.iter().take(wanted.count) {
         print_number(to, number as usize)?;
-        i += 1;
     }
     print(to, b"\n")
 }
 
 // The first n bytes as a log beside so many frozen records, or as a list of wanted numbers.
 fn print_log(to: &mut impl Write, space: &[u8], n: usize, frozen: usize) -> io::Result<()> {
-    if n < space.len() {
-        print_index(to, corrections::index_of(&space[0..n], frozen))
-    } else {
-        print_index(to, corrections::index_of(space, frozen))
-    }
+    print_index(
+        to,
+        corrections::index_of(&space[..n.min(space.len())], frozen),
+    )
 }
 
 fn print_list(to: &mut impl Write, space: &[u8], n: usize) -> io::Result<()> {
-    if n < space.len() {
-        print_wanted(to, wanted::numbers(&space[0..n]))
-    } else {
-        print_wanted(to, wanted::numbers(space))
-    }
+    print_wanted(to, wanted::numbers(&space[..n.min(space.len())]))
 }
 
 // A length and some bytes more, as long as they have room.
@@ -113,10 +89,8 @@ fn longer(n: usize, by: usize) -> usize
 
 // Puts a byte so many times behind the first n.
 fn put_run(space: &mut [u8], n: usize, byte: u8, times: usize) -> usize {
-    let mut k: usize = 0;
-    while k < times {
+    for k in 0..times {
         slices::put_after(space, n, k, byte);
-        k += 1;
     }
     longer(n, times)
 }
@@ -158,50 +132,34 @@ fn put_heading(space: &mut [u8], n: usize, number: usize) -> usize {
 // Carries out an instruction on a text of n bytes, `whole` being the length of the text before it, and answers how long it is then.
 fn carry_out(space: &mut [u8], n: usize, whole: usize, op: u8, x: u8, y: u8) -> usize {
     let number = x as usize * 256 + y as usize;
-    if op == 1 {
-        return put_line(space, n, x, y);
+    match op {
+        1 => put_line(space, n, x, y),
+        2 => put_heading(space, n, number),
+        3 => n.saturating_sub(number),
+        4 => put_run(space, n, x, y as usize),
+        5 => whole,
+        7 => n,
+        _ => 0,
     }
-    if op == 2 {
-        return put_heading(space, n, number);
-    }
-    if op == 3 {
-        if number <= n {
-            return n - number;
-        }
-        return 0;
-    }
-    if op == 4 {
-        return put_run(space, n, x, y as usize);
-    }
-    if op == 5 {
-        return whole;
-    }
-    if op == 7 {
-        return n;
-    }
-    0
 }
 
 // The frozen records beside the next log.
 fn frozen_after(frozen: usize, op: u8, x: u8, y: u8) -> usize {
-    if op == 7 {
-        return x as usize * 256 + y as usize;
+    match op {
+        7 => x as usize * 256 + y as usize,
+        0 => 0,
+        _ => frozen,
     }
-    if op == 0 {
-        return 0;
-    }
-    frozen
 }
 
 fn print_texts(to: &mut impl Write, instructions: &[u8], space: &mut [u8]) -> io::Result<()> {
     let mut n = 0;
     let mut whole = 0;
     let mut frozen = 0;
-    let mut at = 0;
-    while at < instructions.len() {
-        let op = slices::byte_at(instructions, at);
-        let x = slices::byte_after(instructions, at, 1);
-        let y = slices::byte_after(instructions, at, 2);
+    for instruction in instructions.chunks(3) {
+        let op = slices::byte_at(instruction, 0);
+        let x = slices::byte_at(instruction, 1);
+        let y = slices::byte_at(instruction, 2);
         if op == 0 {
             print_log(to, space, n, frozen)?;
             whole = n;
@@ -212,10 +170,6 @@ fn print_texts(to: &mut impl Write, instructions: &[u8], space: &mut [u8]) -> io
         }
         n = carry_out(space, n, whole, op, x, y);
         frozen = frozen_after(frozen, op, x, y);
-        if instructions.len() - at <= 3 {
-            break;
-        }
-        at += 3;
     }
     Ok(())
 }

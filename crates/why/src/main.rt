@@ -1,20 +1,31 @@
-// Reads `frozen.txt`, `log.txt` and `want.txt`, and prints why each correction is taken, or the refusal and what it is about. Of each file at
-// most one byte past its limit is read, so that one that is too long is seen to be. A write that fails ends the program with an error. Assumes
-// nothing.
+// Reads `frozen.txt`, `log.txt` and `want.txt`, and prints why each correction is taken, or the refusal and what it is about. A write that fails
+// ends the program with an error. Assumes nothing.
 #![tactic(auto)]
 
+ghost use Rattle.std.specs.Prelude.{refl};
+ghost use Rattle.answers.specs.Why.{why_answer};
+ghost use Rattle.answers.proofs.Lengths.{why_fits};
+
+use answers::{Answer, LONGEST_WHY};
+use running::{Program, print_answer};
 use std::io;
-use std::io::Write;
+
+struct Why;
+
+impl Program<LONGEST_WHY> for Why {
+    ghost text = { why_answer };
+
+    const WANTS: bool = true;
+
+    fn answer(frozen: &[u8], log: &[u8], want: &[u8], out: &mut [u8; LONGEST_WHY]) -> Answer {
+        answers::why_answer(frozen, log, want, out)
+    }
+
+    ghost fits = { why_fits };
+
+    ghost small = { refl };
+}
 
 fn main(rt: HostRuntime) -> io::Result<()> {
-    let mut frozen = [0u8; answers::FROZEN_READ];
-    let f = folder::read(&rt, b"frozen.txt", &mut frozen);
-    let mut log = [0u8; answers::LOG_READ];
-    let l = folder::read(&rt, b"log.txt", &mut log);
-    let mut want = [0u8; answers::WANT_READ];
-    let w = folder::read(&rt, b"want.txt", &mut want);
-    let mut out = [0u8; answers::LONGEST_WHY];
-    let answer = answers::why_answer(&frozen[..f], &log[..l], &want[..w], &mut out);
-    let n = answer.length;
-    io::writer(&rt).write_all(&out[..n])
+    print_answer::<Why, _, _, LONGEST_WHY>(&rt, &mut io::writer(&rt))
 }

@@ -2,4 +2,4 @@
 use Rattle.answers.proofs.too_short.Goals as goal
 
 pub returns : goal.returns
-returns c = (rw c.buffer_too_short-refusal.ensures, c.clear.ensures)
+returns c = (rw c.buffer_too_short.ensures, c.clear.ensures)

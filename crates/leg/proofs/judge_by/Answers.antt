@@ -8,7 +8,7 @@ returns-then-column-ne0 c = stage_refuses _ _ refl c.if-column-ne0.true c.field_
 
 pub returns-in-Primary : goal.returns-in-Primary
 returns-in-Primary c = c.judge_leg.ensures
-    ∙ sym (stage_passes _ _ refl c.if-column-ne0.false ∙ rw (sym c.kind_of-kind.ensures ∙ c.in-Primary.is))
+    ∙ sym (stage_passes _ _ refl c.if-column-ne0.false ∙ rw (sym c.kind_of.ensures ∙ c.in-Primary.is))
 
 pub returns-in-Continuation : goal.returns-in-Continuation
-returns-in-Continuation c = sym (stage_passes _ _ refl c.if-column-ne0.false ∙ rw (sym c.kind_of-kind.ensures ∙ c.in-Continuation.is))
+returns-in-Continuation c = sym (stage_passes _ _ refl c.if-column-ne0.false ∙ rw (sym c.kind_of.ensures ∙ c.in-Continuation.is))

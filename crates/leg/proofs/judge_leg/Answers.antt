@@ -1,21 +1,20 @@
 -- Stage by stage. Assumes nothing.
 use mathlib.Core.Path.{sym, ◌∙◌}
-use mathlib.Core.Path.{sym, ◌∙◌}
-use Rattle.leg.proofs.StageLaws.{stage_refuses, stage_passes}
+use Rattle.leg.proofs.StageLaws.{stage_found, stage_none}
 use Rattle.leg.specs.Judge.{judged_leg}
 use Rattle.leg.proofs.judge_leg.Goals as goal
 
-pub returns-then-column-ne0 : goal.returns-then-column-ne0
+pub returns-in-Some : goal.returns-in-Some
 unfolding judged_leg
-returns-then-column-ne0 c = stage_refuses _ _ c.companion_column-column.ensures c.if-column-ne0.true c.companion_blank.ensures
+returns-in-Some c = stage_found _ _ _ c.companion_column.ensures c.in-Some.is c.companion_blank.ensures
 
-pub returns-then-column-ne0-2 : goal.returns-then-column-ne0-2
+pub returns-in-Some-needed_column : goal.returns-in-Some-needed_column
 unfolding judged_leg
-returns-then-column-ne0-2 c = stage_refuses _ _ c.needed_column-column.ensures c.if-column-ne0-2.true c.needed_blank.ensures
-    ∙ sym (stage_passes _ _ c.companion_column-column.ensures c.if-column-ne0.false)
+returns-in-Some-needed_column c = stage_found _ _ _ c.needed_column.ensures c.in-Some-needed_column.is c.needed_blank.ensures
+    ∙ sym (stage_none _ _ _ c.companion_column.ensures c.in_default.is)
 
 pub returns : goal.returns
 unfolding judged_leg
 returns c = sym
-    (stage_passes _ _ c.companion_column-column.ensures c.if-column-ne0.false
-    ∙ stage_passes _ _ c.needed_column-column.ensures c.if-column-ne0-2.false)
+    (stage_none _ _ _ c.companion_column.ensures c.in_default.is
+    ∙ stage_none _ _ _ c.needed_column.ensures c.in_default-needed_column.is)

@@ -1,13 +1,10 @@
--- One law for each way to return. Assumes nothing.
-use mathlib.Core.Path.{refl}
-use Rattle.routes.proofs.FileLaws.{tail_none, tail_short, tail_long}
+-- By how many bytes stand there. Assumes nothing.
+use native.Mathlib.Omega.{arith}
+use Rattle.routes.proofs.FileLaws.{tail_none, tail_some}
 use Rattle.routes.proofs.judge_tail.Goals as goal
 
-pub returns-then-file-whole : goal.returns-then-file-whole
-returns-then-file-whole c = tail_none _ _ c.if-file-whole.true
+pub returns-in-0 : goal.returns-in-0
+returns-in-0 c = tail_none _ _ (omega (arith, c.saturating_sub.ensures, c.in-0.is))
 
-pub returns-then-tail-lt-LINE_WIDTH : goal.returns-then-tail-lt-LINE_WIDTH
-returns-then-tail-lt-LINE_WIDTH c = tail_short _ _ c.if-file-whole.false refl c.if-tail-lt-LINE_WIDTH.true c.cut_short.ensures
-
-pub returns : goal.returns
-returns c = tail_long _ _ c.if-file-whole.false refl c.if-tail-lt-LINE_WIDTH.false c.cut_short-2.ensures
+pub returns-in_default : goal.returns-in_default
+returns-in_default c = tail_some _ _ c.saturating_sub.ensures (λ z. omega arith) c.min.ensures c.cut_short.ensures

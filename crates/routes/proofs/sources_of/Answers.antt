@@ -4,10 +4,6 @@ use Rattle.routes.specs.Sources.{sources_to, records, sources_of}
 use Rattle.routes.proofs.SourceLaws.{at_most}
 use Rattle.routes.proofs.sources_of.Goals as goal
 
-pub sources_to-requires : goal.sources_to-requires
-unfolding records
-sources_to-requires c = rw c.count_records-count.ensures (at_most 480 _)
-
 pub returns : goal.returns
 unfolding sources_of
-returns c = c.sources_to.ensures ∙ ap sources_to c.count_records-count.ensures
+returns c = c.sources_to.ensures ∙ ap sources_to c.count_records.ensures.0

@@ -1,8 +1,9 @@
--- The invariant: what is left of the range decides the answer. Assumes nothing.
+-- The invariant: what is left of the sources decides the answer. Assumes nothing.
 use mathlib.Core.Path.{◌≡◌}
-use Prim.Native.Nat.{◌≤◌, ◌-◌, min}
-use lib.ListN.{length}
-use Rattle.routes.specs.Sources.{sources_in, records_in}
+use mathlib.Core.List.{map}
+use Prim.Native.Nat.{◌≤◌}
+use lib.ListN.{length, take, drop}
+use Rattle.routes.specs.Sources.{record_at}
 use Rattle.routes.specs.Stages.{nothing}
 use Rattle.routes.specs.Known.{walk_knowing}
 use Rattle.routes.proofs.Turns.{walking}
@@ -10,13 +11,4 @@ use Rattle.routes.proofs.walk.Given as goal
 
 abbrev pub invariant-loop-i : goal.invariant-loop-i
 invariant-loop-i l =
-    (l.end ≡ min l.to (min l.sources.count 480))
-    × (l.from ≤ l.i)
-    × (length l.sources.at ≡ 480)
-    × (l.to ≤ l.ahead)
-    × (l.all ≡ l.sources.at)
-    × (l.view ≡ min l.ahead (min l.sources.count 480))
-    × (walk_knowing l.known l.frozen l.log (records_in l.frozen l.log l.sources l.to l.ahead) nothing 1 (sources_in l.sources l.from l.to) ≡ walking l.known l.frozen l.log l.sources l.from l.to l.ahead l.primary l.before l.i)
-
-abbrev pub decreases-loop-i : goal.decreases-loop-i
-decreases-loop-i l = l.end - l.i
+    walk_knowing l.known l.texts.frozen.now l.texts.log.now (map (record_at l.texts.frozen.now l.texts.log.now) (drop l.n l.sources)) nothing 1 (take l.n l.sources) ≡ walking l.known l.texts.frozen.now l.texts.log.now l.sources l.n l.seen.primary.now l.seen.before.now l.i

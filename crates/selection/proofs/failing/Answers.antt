@@ -1,12 +1,8 @@
--- Opened or not. Assumes nothing.
-use Rattle.selection.proofs.CarryLaws.{opened_reads, failing_opened, failing_not_opened}
+-- A refusal of which no more is known, or the verdict over the whole log. Assumes nothing.
+use Rattle.std.proofs.lemmas.Result.{err_from_is_err_and}
+use Rattle.selection.proofs.CarryLaws.{failing_not_opened}
 use Rattle.selection.proofs.failing.Goals as goal
 
-pub whole-requires : goal.whole-requires
-whole-requires c = opened_reads _ _ _ c.opening-index.ensures c.in-Ok.is
-
-pub returns-in-Ok : goal.returns-in-Ok
-returns-in-Ok c = failing_opened _ _ _ c.opening-index.ensures c.in-Ok.is c.whole.ensures
-
-pub returns-in-Err : goal.returns-in-Err
-returns-in-Err c = failing_not_opened _ _ _ c.opening-index.ensures c.in-Err.is c.failure_by.ensures
+pub returns-in_err-opened : goal.returns-in_err-opened
+returns-in_err-opened c = let p = err_from_is_err_and c.from_residual.result c.from_residual.ensures.1 in
+    rw (p.1, p.2) (failing_not_opened _ _ c.in_err-opened.ensures)

@@ -1,12 +1,7 @@
--- Opened or not. Assumes nothing.
-use Rattle.selection.proofs.CarryLaws.{opened_with, pick_opened, pick_not_opened}
+-- The pick, or the refusal alone. Assumes nothing.
+use mathlib.Core.Path.{ap, sym, ◌∙◌}
+use Rattle.selection.specs.Pick.{picked_as}
 use Rattle.selection.proofs.pick.Goals as goal
 
-pub pick_from-requires : goal.pick_from-requires
-pick_from-requires c = opened_with _ _ _ c.opening-index.ensures c.in-Ok.is
-
-pub returns-in-Ok : goal.returns-in-Ok
-returns-in-Ok c = pick_opened _ _ _ c.opening-index.ensures c.in-Ok.is _ c.pick_from.ensures
-
 pub returns-in-Err : goal.returns-in-Err
-returns-in-Err c = pick_not_opened _ _ _ c.opening-index.ensures _ c.in-Err.is c.refused_pick.ensures
+returns-in-Err c = c.refused_pick.ensures ∙ ap picked_as (sym c.in-Err.ensures)

@@ -1,12 +1,8 @@
 -- Opened or not. Assumes nothing.
-use Rattle.selection.proofs.CarryLaws.{opened_reads, reasons_opened, reasons_not_opened}
+use Rattle.std.proofs.lemmas.Result.{err_from_is_err_and}
+use Rattle.selection.proofs.CarryLaws.{reasons_not_opened}
 use Rattle.selection.proofs.reasons.Goals as goal
 
-pub reasons_from-requires : goal.reasons_from-requires
-reasons_from-requires c = opened_reads _ _ _ c.opening-index.ensures c.in-Ok.is
-
-pub returns-in-Ok : goal.returns-in-Ok
-returns-in-Ok c = reasons_opened _ _ _ c.opening-index.ensures c.in-Ok.is _ c.reasons_from.ensures
-
-pub returns-in-Err : goal.returns-in-Err
-returns-in-Err c = reasons_not_opened _ _ _ c.opening-index.ensures _ c.in-Err.is c.failure_by.ensures c.no_reasons.ensures
+pub returns-in_err-opened : goal.returns-in_err-opened
+returns-in_err-opened c = let p = err_from_is_err_and c.from_residual.result c.from_residual.ensures.1 in
+    rw (p.1, p.2) (reasons_not_opened _ _ c.in_err-opened.ensures _)

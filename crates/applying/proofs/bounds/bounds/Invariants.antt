@@ -1,12 +1,8 @@
--- The invariant: the offsets that are left are within the longest log exactly when all are. Assumes nothing.
-use Rattle.applying.specs.Bounds.{all_within}
-use lib.ListN.{length, drop}
-use Prim.Native.Nat.{◌-◌, ◌≤◌}
+-- The invariant: the lines that are left are within the longest log exactly when all are. Assumes nothing.
 use mathlib.Core.Path.{◌≡◌}
+use lib.ListN.{length, drop}
+use Rattle.applying.specs.Bounds.{all_within}
 use Rattle.applying.proofs.bounds.bounds.Given as goal
 
-abbrev pub invariant-loop-k : goal.invariant-loop-k
-invariant-loop-k l = (l.k ≤ 444) × (length l.index.at ≡ 444) × (all_within l.index.at ≡ all_within (drop l.k l.index.at))
-
-abbrev pub decreases-loop-k : goal.decreases-loop-k
-decreases-loop-k l = 444 - l.k
+abbrev pub invariant-loop-entry : goal.invariant-loop-entry
+invariant-loop-entry l = (length l.entries ≡ 444) × (all_within l.entries ≡ all_within (drop l.entry-index l.entries))

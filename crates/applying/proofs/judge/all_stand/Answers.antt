@@ -1,29 +1,34 @@
 -- By the invariant: the routes of the lines so far stand. Assumes nothing.
-use Rattle.applying.proofs.RouteLaws.{one_more}
+use Rattle.applying.proofs.RouteLaws.{one_more, same_stands}
 use Rattle.applying.proofs.TouchedLaws.{each_stands}
-use Rattle.applying.specs.Apply.{RouteStands, in_rows}
-use Rattle.applying.specs.State.{held}
-use Rattle.routes.specs.Sources.{log_source, in_use}
+use Rattle.applying.specs.Apply.{RouteStands, source_of}
+use Rattle.corrections.specs.Reading.{no_entry}
 use lib.ListN.{get_or}
 use Prim.Native.Nat.{ℕ}
-use mathlib.Core.Bool.{false≢true}
+use mathlib.Core.Path.{sym, subst, ◌∙◌}
 use native.Mathlib.Omega.{arith}
 use Rattle.applying.proofs.judge.all_stand.Goals as goal
 
-pub loop-k-init : goal.loop-k-init
-loop-k-init c = (omega arith, λ j a b. absurd (omega arith))
+pub source_of-source-requires : goal.source_of-source-requires
+source_of-source-requires c = c.args.lines.within c.loop-line.line-index
 
-pub returns-then-not-line_stands : goal.returns-then-not-line_stands
-returns-then-not-line_stands c = λ t. absurd (false≢true t)
+pub loop-line-preserved-then-same_route : goal.loop-line-preserved-then-same_route
+loop-line-preserved-then-same_route c = let st = c.args.state.now in
+    let inv = c.loop-line.invariant in
+    let other = rw c.in-Some.is at inv.1 in (
+      one_more (λ (j : ℕ). RouteStands st.frozen st.log st.sources (source_of (get_or c.args.lines.entries.now j no_entry))) _ inv.0
+          (subst (RouteStands st.frozen st.log st.sources) c.source_of-source.ensures (same_stands st.frozen st.log st.sources c.in-Some.other c.source_of-source.result (sym c.same_route.ensures ∙ c.if-same_route.true) other)),
+      other,
+    )
 
-pub loop-k-preserved : goal.loop-k-preserved
-loop-k-preserved c = let inv = c.loop-k.invariant in (
-  omega (arith, inv.0),
-  one_more (λ (j : ℕ). RouteStands c.args.frozen.now c.args.log.now (in_use (held c.args.count c.args.at.now)) (log_source (get_or c.args.offsets.now j 0))) _ _ inv.1
-      (c.line_stands.ensures (c.if-not-line_stands.false) (λ h. inv.1 _ (omega arith) (omega arith))),
-)
+pub loop-line-preserved : goal.loop-line-preserved
+loop-line-preserved c = let st = c.args.state.now in
+    let inv = c.loop-line.invariant in
+    let stands = c.route_stands.ensures c.if-not-route_stands.false in (
+      one_more (λ (j : ℕ). RouteStands st.frozen st.log st.sources (source_of (get_or c.args.lines.entries.now j no_entry))) _ inv.0
+          (subst (RouteStands st.frozen st.log st.sources) c.source_of-source.ensures stands),
+      stands,
+    )
 
 pub returns : goal.returns
-returns c = λ t letters owners.
-    let inv = c.loop-k.invariant in
-    each_stands _ _ (in_rows letters c.args.offsets.now owners) _ _ _ c.requires.3 (λ j a b. inv.1 j a (omega (arith, c.loop-k-test.false, inv.0)))
+returns c = λ t. each_stands _ _ c.args.lines.entries.now _ c.requires (λ j b. c.loop-line.invariant.0 j (omega (arith, b, c.loop-line-test.false)))

@@ -1,13 +1,10 @@
--- The invariant: the routes of the lines so far stand. Assumes nothing.
-use Rattle.applying.specs.Apply.{RouteStands}
-use Rattle.applying.specs.State.{held}
-use Rattle.routes.specs.Sources.{log_source, in_use}
+-- The invariant: the routes of the lines so far stand, and the one that is kept is that of the last. Assumes nothing.
+use Prim.Native.Nat.{ℕ, ◌<◌}
 use lib.ListN.{get_or}
-use Prim.Native.Nat.{ℕ, ◌-◌, ◌≤◌, ◌<◌}
+use Rattle.std.specs.Option.{IfSome}
+use Rattle.corrections.specs.Reading.{no_entry}
+use Rattle.applying.specs.Apply.{RouteStands, source_of}
 use Rattle.applying.proofs.judge.all_stand.Given as goal
 
-abbrev pub invariant-loop-k : goal.invariant-loop-k
-invariant-loop-k l = (l.from ≤ l.k) × ((j : ℕ) → l.from ≤ j → j < l.k → RouteStands l.frozen l.log (in_use (held l.count l.at)) (log_source (get_or l.offsets j 0)))
-
-abbrev pub decreases-loop-k : goal.decreases-loop-k
-decreases-loop-k l = l.to - l.k
+abbrev pub invariant-loop-line : goal.invariant-loop-line
+invariant-loop-line l = ((j : ℕ) → j < l.line-index → RouteStands l.state.frozen l.state.log l.state.sources (source_of (get_or l.line-items j no_entry))) × IfSome l.before (λ s. RouteStands l.state.frozen l.state.log l.state.sources s)

@@ -1,20 +1,23 @@
 -- By the invariant: the lines that are left give the answer. Assumes nothing.
 use Rattle.applying.proofs.JudgeLaws.{touched_end, touched_found, touched_next}
-use mathlib.Core.Path.{refl, sym, ◌∙◌}
-use native.Mathlib.Omega.{arith}
+use mathlib.Core.Path.{refl, sym, ap, ◌∙◌}
+use Prim.Native.Nat.{ℕ}
+use Rattle.applying.specs.Apply.{same_route}
 use Rattle.applying.proofs.judge.touches.Goals as goal
 
-pub loop-k-init : goal.loop-k-init
-loop-k-init c = λ letters owners. refl
+pub loop-line-init : goal.loop-line-init
+loop-line-init c = refl
 
-pub overflow_cast-offset : goal.overflow_cast-offset
-overflow_cast-offset c = omega (arith, c.requires.1.1 c.loop-k.k)
+pub source_of-requires : goal.source_of-requires
+source_of-requires c = c.args.lines.within c.loop-line.line-index
 
 pub returns-then-same_route : goal.returns-then-same_route
-returns-then-same_route c = λ letters owners. sym (c.loop-k.invariant letters owners ∙ touched_found _ _ _ _ _ _ c.loop-k-test.true c.log_source.ensures c.same_route.ensures c.if-same_route.true)
+returns-then-same_route c = let e = c.same_route.ensures ∙ ap (λ (s : ℕ). same_route c.args.state.now.frozen c.args.state.now.log s c.args.source) c.source_of.ensures in
+    sym (c.loop-line.invariant ∙ touched_found _ _ _ _ _ c.loop-line-test.true e c.if-same_route.true)
 
-pub loop-k-preserved : goal.loop-k-preserved
-loop-k-preserved c = λ letters owners. c.loop-k.invariant letters owners ∙ touched_next _ _ _ _ _ _ c.loop-k-test.true c.log_source.ensures c.same_route.ensures c.if-same_route.false
+pub loop-line-preserved : goal.loop-line-preserved
+loop-line-preserved c = let e = c.same_route.ensures ∙ ap (λ (s : ℕ). same_route c.args.state.now.frozen c.args.state.now.log s c.args.source) c.source_of.ensures in
+    c.loop-line.invariant ∙ touched_next _ _ _ _ _ c.loop-line-test.true e c.if-same_route.false
 
 pub returns : goal.returns
-returns c = λ letters owners. sym (c.loop-k.invariant letters owners ∙ touched_end _ _ _ _ _ _ c.loop-k-test.false)
+returns c = sym (c.loop-line.invariant ∙ touched_end _ _ _ _ _ c.loop-line-test.false)

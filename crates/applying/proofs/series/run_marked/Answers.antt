@@ -1,39 +1,27 @@
 -- By the invariant: the corrections that are left, over the state so far, give the answer. Assumes nothing.
-use Rattle.applying.proofs.RunLaws.{counted, run_starts, run_of_rows, run_ends, run_stops, run_goes_on, order_goes_on}
-use mathlib.Core.Path.{refl, subst}
-use Rattle.applying.specs.Correct.{Comes}
-use borrow.Author.Rules.{rules}
+use Rattle.applying.proofs.RunLaws.{leading_within, running_starts, running_ends, running_skips, running_stops, running_goes_on}
+use Rattle.std.proofs.lemmas.Result.{err_from_is_err_and}
 use native.Mathlib.Omega.{arith}
+use Prim.Native.Nat.{◌+◌}
 use Rattle.applying.proofs.series.run_marked.Goals as goal
 
 pub loop-n-init : goal.loop-n-init
-loop-n-init c = let pre = c.requires in (refl, pre.0, pre.3, omega arith, search rules, run_starts _ _ _ _ _ _ _)
+loop-n-init c = running_starts _ _ _ _
 
-pub lines_end-to-requires : goal.lines_end-to-requires
-lines_end-to-requires c = (c.requires.1, c.loop-n.invariant.3, search rules)
+pub split_at-requires : goal.split_at-requires
+split_at-requires c = omega (arith, leading_within (c.loop-n.n + 1) c.loop-n.rest.entries.now, c.leading_lines.ensures)
 
-pub correct_if-next-requires : goal.correct_if-next-requires
-correct_if-next-requires c = let pre = c.requires in
-    let inv = c.loop-n.invariant in
-    let good = c.well_formed.1.1.1.1.0 in
-    (inv.1, omega (arith, pre.1, c.lines_end-to.ensures.1), (search rules, pre.2), search rules, inv.2, pre.4)
+pub loop-n-preserved-then-not-is_marked : goal.loop-n-preserved-then-not-is_marked
+loop-n-preserved-then-not-is_marked c = rw c.split_at.ensures.1 (running_skips c.loop-n.invariant c.loop-n-test.true c.leading_lines.ensures c.is_marked.ensures c.if-not-is_marked.true)
 
-pub returns-in-Err : goal.returns-in-Err
-returns-in-Err c = let inv = c.loop-n.invariant in
-    let index = c.args.index in
-    subst (Comes _ _) (run_of_rows _ _ _ _ index _) (run_stops _ _ _ _ (counted index.corrections index.count index.kind index.at index.correction) _ _ _ _ _ inv.5 c.loop-n-test.true (c.lines_end-to.ensures.0 _ _) inv.3 c.is_marked-marked.ensures _ _ (c.correct_if-next.ensures _) c.in-Err.is)
-
-pub overflow_add-n-in-loop-n-3 : goal.overflow_add-n-in-loop-n-3
-overflow_add-n-in-loop-n-3 c = omega (arith, c.loop-n-test.true, c.loop-n.invariant.4)
+pub returns-in_err-correct : goal.returns-in_err-correct
+returns-in_err-correct c = let p = err_from_is_err_and c.from_residual.result c.from_residual.ensures.1 in
+    let g = rw (c.in_err-correct.was, c.split_at.ensures.0) at c.correct.ensures in
+    rw (p.1, p.2) (running_stops c.loop-n.invariant c.loop-n-test.true c.leading_lines.ensures c.is_marked.ensures c.if-not-is_marked.false c.correct.new.state g c.correct.new.state)
 
 pub loop-n-preserved : goal.loop-n-preserved
-loop-n-preserved c = let inv = c.loop-n.invariant in
-    let index = c.args.index in
-    let on = run_goes_on _ _ _ _ (counted index.corrections index.count index.kind index.at index.correction) _ _ _ _ _ inv.5 c.loop-n-test.true (c.lines_end-to.ensures.0 _ _) inv.3 c.is_marked-marked.ensures _ _ (c.correct_if-next.ensures _) c.in-Ok.is in
-    let order = order_goes_on _ _ _ _ (counted index.corrections index.count index.kind index.at index.correction) _ _ _ _ _ inv.5 c.loop-n-test.true (c.lines_end-to.ensures.0 _ _) inv.3 c.is_marked-marked.ensures _ _ (c.correct_if-next.ensures _) _ c.in-Ok.is inv.2 in
-    (search rules, (on.0, search rules), order, c.lines_end-to.ensures.1, inv.4, on.1)
+loop-n-preserved c = let g = rw (c.in_ok-correct.was, c.split_at.ensures.0) at c.correct.ensures in
+    rw c.split_at.ensures.1 (running_goes_on c.loop-n.invariant c.loop-n-test.true c.leading_lines.ensures c.is_marked.ensures c.if-not-is_marked.false c.correct.new.state g)
 
 pub returns : goal.returns
-returns c = let inv = c.loop-n.invariant in
-    let index = c.args.index in
-    subst (Comes _ _) (run_of_rows _ _ _ _ index _) (run_ends _ _ _ _ (counted index.corrections index.count index.kind index.at index.correction) _ _ _ _ _ inv.5 c.loop-n-test.false inv.1.0 _ _ refl refl)
+returns c = running_ends c.loop-n.invariant c.loop-n-test.false

@@ -1,13 +1,19 @@
--- A law for each way that it returns. Assumes nothing.
-use Rattle.applying.proofs.StateLaws.{by_key}
-use mathlib.Core.Path.{refl, sym, ◌∙◌}
+-- By what each comparison answers. Assumes nothing.
+use Rattle.applying.proofs.StateLaws.{places, then_after, after_after}
+use mathlib.Core.Path.{◌≡◌, refl, sym, ap, ◌∙◌}
+use borrow.Author.Rules.{rules}
+use Rattle.slices.specs.Part.{part}
+use Rattle.slices.specs.Order.{order}
+use Rattle.slices.proofs.OrderLaws.{after}
+use Rattle.std.specs.declared.cmp.Ordering.{Ordering}
 use Rattle.applying.proofs.state.place_order.Goals as goal
 
-pub returns-in-Less : goal.returns-in-Less
-returns-in-Less c = (by_key _ _ c.compare-key.ensures refl refl).0 c.in-Less.is
-
-pub returns-in-Equal : goal.returns-in-Equal
-returns-in-Equal c = c.order_on_route.ensures (sym c.compare-key.ensures ∙ c.in-Equal.is)
-
-pub returns-in-Greater : goal.returns-in-Greater
-returns-in-Greater c = (by_key _ _ c.compare-key.ensures refl refl).1 c.in-Greater.is
+pub returns : goal.returns
+returns c =
+    let a = c.args.a.now in
+    let b = c.args.b.now in
+    let sequence : c.then_with.result ≡ after c.compare.result (order (part 3 26 a) (part 3 26 b)) =
+    then_after c.compare.result (order (part 3 26 a) (part 3 26 b)) c.then_with.result c.then_with.ensures (λ m. search rules) in
+    let number : c.then_with-2.result ≡ after c.then_with.result (order (part 1 38 a) (part 1 38 b)) =
+    then_after c.then_with.result (order (part 1 38 a) (part 1 38 b)) c.then_with-2.result c.then_with-2.ensures (λ m. search rules) in
+    number ∙ ap (λ (o : Ordering). after o (order (part 1 38 a) (part 1 38 b))) sequence ∙ after_after c.compare.result (order (part 3 26 a) (part 3 26 b)) (order (part 1 38 a) (part 1 38 b)) ∙ sym (places a b c.compare.ensures refl refl)

@@ -1,11 +1,8 @@
 -- By the order of the places. Assumes nothing.
+use Rattle.applying.proofs.StateLaws.{is_late}
+use Rattle.applying.specs.State.{not_less}
+use mathlib.Core.Path.{ap, ◌∙◌}
 use Rattle.applying.proofs.state.reaches.Goals as goal
 
-pub returns-in-Less : goal.returns-in-Less
-returns-in-Less c = rw (← c.place_order-way.ensures, c.in-Less.is)
-
-pub returns-in-Equal : goal.returns-in-Equal
-returns-in-Equal c = rw (← c.place_order-way.ensures, c.in-Equal.is)
-
-pub returns-in-Greater : goal.returns-in-Greater
-returns-in-Greater c = rw (← c.place_order-way.ensures, c.in-Greater.is)
+pub returns : goal.returns
+returns c = c.is_ge.ensures ∙ is_late _ ∙ ap not_less c.place_order.ensures

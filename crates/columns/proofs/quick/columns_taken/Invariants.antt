@@ -1,7 +1,7 @@
 -- The invariant: while all is well, the columns passed are taken. Assumes nothing.
 use mathlib.Core.Path.{◌≡◌}
 use mathlib.Core.Bool.{true}
-use Prim.Native.Nat.{◌≤◌, ◌-◌}
+use Prim.Native.Nat.{◌≤◌}
 use Rattle.columns.specs.Quick.{Taken}
 use Rattle.columns.proofs.quick.columns_taken.Given as goal
 

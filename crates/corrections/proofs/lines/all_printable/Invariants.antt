@@ -1,12 +1,9 @@
--- The invariant: what was noted and what is left to look at decide the answer. Assumes nothing.
+-- The invariant: what was noted is so of the bytes that were looked at. Assumes nothing.
 use mathlib.Core.Path.{◌≡◌}
-use Prim.Native.Nat.{◌≤◌, ◌-◌}
-use Rattle.corrections.specs.Lines.{printables}
-use Rattle.corrections.proofs.ReachLaws.{printable_left}
+use lib.ListN.{take}
+use Rattle.std.specs.List.{list_all}
+use Rattle.corrections.specs.Lines.{printable, allows}
 use Rattle.corrections.proofs.lines.all_printable.Given as goal
 
-abbrev pub invariant-loop-k : goal.invariant-loop-k
-invariant-loop-k l = (l.k ≤ 132) × (printables 132 l.i l.log ≡ printable_left l.fine 132 l.i l.log l.k)
-
-abbrev pub decreases-loop-k : goal.decreases-loop-k
-decreases-loop-k l = 132 - l.k
+abbrev pub invariant-loop-b : goal.invariant-loop-b
+invariant-loop-b l = l.fine ≡ list_all (allows printable) (take l.b-index l.bytes)

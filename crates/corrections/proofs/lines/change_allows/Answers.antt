@@ -1,18 +1,20 @@
 -- By the place. Assumes nothing.
+use native.Mathlib.Omega.{arith}
 use Rattle.corrections.specs.Lines.{change}
-use Rattle.corrections.proofs.ReachLaws.{change_record, change_end}
+use Rattle.corrections.proofs.ReachLaws.{change_record}
 use Rattle.corrections.proofs.lines.change_allows.Goals as goal
 
-pub returns-then-k-eq0 : goal.returns-then-k-eq0
+pub returns-in-0 : goal.returns-in-0
 unfolding change
-returns-then-k-eq0 c = rw c.if-k-eq0.true
+returns-in-0 c = rw c.in-0.is
 
-pub returns-then-k-eq1 : goal.returns-then-k-eq1
+pub returns-in-1 : goal.returns-in-1
 unfolding change
-returns-then-k-eq1 c = rw c.if-k-eq1.true
+returns-in-1 c = rw c.in-1.is
 
-pub returns-then-k-lt134 : goal.returns-then-k-lt134
-returns-then-k-lt134 c = rw (change_record _ _ c.if-k-eq0.false c.if-k-eq1.false c.if-k-lt134.true) c.is_printable.ensures
+pub returns-in-134 : goal.returns-in-134
+unfolding change
+returns-in-134 c = rw c.in-134.is
 
-pub returns : goal.returns
-returns c = rw (change_end _ _ c.if-k-lt134.false c.requires)
+pub returns-in_default : goal.returns-in_default
+returns-in_default c = rw (change_record c.args.letter c.args.k (λ z. omega arith) (λ z. omega arith) (omega arith)) c.is_printable.ensures

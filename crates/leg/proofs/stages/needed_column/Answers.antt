@@ -1,8 +1,9 @@
--- The terminator's line of the table is lent once, and tells what is needed. Assumes nothing.
-use Rattle.leg.proofs.StageLaws.{missing_by_line}
-use Rattle.leg.proofs.TerminatorLaws.{needed_table}
+-- The field that is found first is the one that is missing. Assumes nothing.
+use mathlib.Core.Path.{refl, ◌∙◌}
+use Rattle.leg.proofs.StageLaws.{counted, found_missing}
+use Rattle.leg.specs.Stages.{needed_of, needed_column, needable, asks}
 use Rattle.leg.proofs.stages.needed_column.Goals as goal
 
 pub returns : goal.returns
-unfolding needed_table
-returns c = missing_by_line _ c.of-t.ensures c.byte_at-both.ensures c.number.ensures.0 c.missing_column.ensures
+unfolding needed_column needed_of counted
+returns c = rw (← c.of.ensures, ← c.byte_at-both.ensures) (c.missing_column.ensures ∙ found_missing (asks c.of.result _) _ needable refl)

@@ -1,9 +1,10 @@
 -- By what the slot holds. Assumes nothing.
-use Rattle.routes.proofs.KnownLaws.{knows_none, knows_held}
+use Rattle.std.proofs.Common.{◌≡◌, get_or}
+use borrow.Author.Rules.{rules}
+use Rattle.routes.proofs.KnownLaws.{knows_held}
 use Rattle.routes.proofs.known.knows.Goals as goal
 
-pub returns-then-known-i : goal.returns-then-known-i
-returns-then-known-i c = knows_none _ _ c.slot-i.ensures c.if-known-i.true
-
 pub returns : goal.returns
-returns c = knows_held _ _ c.slot-i.ensures
+returns c =
+    let e : c.unwrap_or-held.result ≡ get_or c.args.known.now c.slot.result 0 = search rules in
+    rw e (knows_held _ _ c.slot.ensures)

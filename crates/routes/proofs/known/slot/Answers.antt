@@ -5,5 +5,5 @@ use Rattle.routes.proofs.known.slot.Goals as goal
 pub returns-then-source-lt-FIRST_OF_LOG : goal.returns-then-source-lt-FIRST_OF_LOG
 returns-then-source-lt-FIRST_OF_LOG c = slot_of_frozen _ c.if-source-lt-FIRST_OF_LOG.true
 
-pub returns : goal.returns
-returns c = slot_of_log _ c.if-source-lt-FIRST_OF_LOG.false
+pub returns-else-source-lt-FIRST_OF_LOG : goal.returns-else-source-lt-FIRST_OF_LOG
+returns-else-source-lt-FIRST_OF_LOG c = slot_of_log _ c.if-source-lt-FIRST_OF_LOG.false

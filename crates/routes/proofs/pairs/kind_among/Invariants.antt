@@ -1,6 +1,6 @@
 -- The invariant: the lines that are left give the answer. Assumes nothing.
 use mathlib.Core.Path.{◌≡◌}
-use Prim.Native.Nat.{◌≤◌, ◌-◌}
+use Prim.Native.Nat.{◌≤◌}
 use Rattle.slices.proofs.SearchLaws.{Come}
 use Rattle.columns.specs.Rows.{byte_in}
 use Rattle.routes.specs.Pairs.{of_line, kind_lines}
@@ -8,7 +8,4 @@ use Rattle.routes.proofs.pairs.kind_among.Given as goal
 
 abbrev pub invariant-loop-i : goal.invariant-loop-i
 invariant-loop-i l =
-    (l.subsection ≡ byte_in 13 l.rec) × (l.route_type ≡ byte_in 20 l.rec) × (l.i ≤ 9) × Come (of_line l.kinds (byte_in 13 l.rec) (byte_in 20 l.rec)) 0 kind_lines 0 l.i
-
-abbrev pub decreases-loop-i : goal.decreases-loop-i
-decreases-loop-i l = 9 - l.i
+    Come (of_line l.kinds (byte_in 13 l.rec) (byte_in 20 l.rec)) 0 kind_lines 0 l.i

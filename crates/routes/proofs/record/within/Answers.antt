@@ -1,13 +1,10 @@
--- One law for each way to return. Assumes nothing.
-use Rattle.routes.proofs.SourceLaws.{within_not, within_cut}
-use native.Mathlib.Omega.{arith}
+-- The part is there or not. Assumes nothing.
+use mathlib.Core.Path.{refl, ap, ◌∙◌}
+use mathlib.Core.List.{List}
+use Prim.Native.Nat.{ℕ}
+use denote.Ref.{Bor}
+use Rattle.routes.proofs.SourceLaws.{within_or_none}
 use Rattle.routes.proofs.record.within.Goals as goal
 
-pub returns-then-s-lt-RECORD_WIDTH : goal.returns-then-s-lt-RECORD_WIDTH
-returns-then-s-lt-RECORD_WIDTH c = within_not _ _ (omega arith)
-
-pub returns-then-s-at : goal.returns-then-s-at
-returns-then-s-at c = within_not _ _ (omega arith)
-
 pub returns : goal.returns
-returns c = within_cut _ _ (omega arith)
+returns c = ap (λ (x : Bor (List ℕ)). x.now) c.unwrap_or.ensures ∙ within_or_none _ _ _ _ refl c.get.ensures.lookup

@@ -1,12 +1,9 @@
 -- The invariant: what is left of the two records decides the answer. Assumes nothing.
 use Rattle.routes.proofs.Turns.{differing}
 use Rattle.routes.specs.Stages.{columns_to, first_difference}
-use Prim.Native.Nat.{◌≤◌, ◌-◌}
+use Prim.Native.Nat.{◌≤◌}
 use mathlib.Core.Path.{◌≡◌}
 use Rattle.routes.proofs.stages.first_difference.Given as goal
 
 abbrev pub invariant-loop-k : goal.invariant-loop-k
-invariant-loop-k l = (l.k ≤ l.n) × (first_difference 1 (columns_to l.n l.a) (columns_to l.n l.b) ≡ differing l.a l.b l.n l.k)
-
-abbrev pub decreases-loop-k : goal.decreases-loop-k
-decreases-loop-k l = l.n - l.k
+invariant-loop-k l = first_difference 1 (columns_to l.n l.a) (columns_to l.n l.b) ≡ differing l.a l.b l.n l.k

@@ -1,19 +1,19 @@
--- By the invariant: the line feeds that are left, with those counted, give the line. Assumes nothing.
-use Rattle.selection.proofs.FailingLaws.{no_line_lem, lines_start, lines_next, lines_end}
-use native.Mathlib.Omega.{arith}
+-- The line feeds before the offset are counted. Assumes nothing.
+use Rattle.std.proofs.Common.{rules, length}
+use Rattle.std.specs.Prelude.{filter, eqb, take}
+use Rattle.std.proofs.lemmas.Iterator.{YieldsList-from_slice}
+use Rattle.std.proofs.lemmas.Iterator.Consumers.{count_from_yields_List, YieldsList-from_filter}
+use Rattle.selection.proofs.FailingLaws.{no_line_lem, line_counted}
+use borrow.Author.Tests.{tests}
+use mathlib.Core.Path.{ap, ◌∙◌}
 use Rattle.selection.proofs.choosing.line_at.Goals as goal
 
 pub returns-then-at-eq0 : goal.returns-then-at-eq0
 returns-then-at-eq0 c = no_line_lem _ _ c.if-at-eq0.true
 
-pub loop-i-init : goal.loop-i-init
-loop-i-init c = (c.least-end.ensures, omega arith, lines_start _ _ c.if-at-eq0.false)
-
-pub loop-i-preserved : goal.loop-i-preserved
-loop-i-preserved c = let inv = c.loop-i.invariant in
-    let next = lines_next _ _ inv.0 _ _ inv.2 inv.1 c.loop-i-test.true c.counted-line.ensures in
-    (inv.0, next.0, next.1)
-
 pub returns : goal.returns
-returns c = let inv = c.loop-i.invariant in
-    lines_end _ _ inv.0 _ _ inv.2 c.loop-i-test.false
+returns c =
+    line_counted _ _ c.if-at-eq0.false
+    (count_from_yields_List c.filter.result _ c.count.ensures.ran
+    (YieldsList-from_filter _ (λ b. eqb b 10) (YieldsList-from_slice (take c.min.result c.args.log.now) (cc)) c.filter.ensures.closure (λ x b q k. search (rules, tests)))
+    ∙ ap (λ n. length (filter (λ b. eqb b 10) (take n c.args.log.now))) c.min.ensures)

@@ -1,20 +1,20 @@
--- By the invariant: the numbers that are left give the answer. Assumes nothing.
-use mathlib.Core.Path.{refl}
-use Rattle.selection.proofs.OpeningLaws.{wanted_zero, wanted_past, wanted_next, wanted_end}
-use borrow.Author.Rules.{rules}
+-- The first number that none of the corrections has, or none. Assumes nothing.
+use Rattle.std.proofs.Common.{◌≡◌, rules, sym, ◌∙◌}
+use Rattle.std.proofs.lemmas.Iterator.{YieldsList-from_slice}
+use Rattle.std.proofs.lemmas.Iterator.Search.{position_from_yields_List}
+use borrow.Author.Tests.{tests}
+use Rattle.std.specs.List.{position}
+use Rattle.selection.proofs.OpeningLaws.{bad, wanted_bad, wanted_fine}
 use Rattle.selection.proofs.opening.within.Goals as goal
 
-pub loop-i-init : goal.loop-i-init
-loop-i-init c = (search rules, refl)
+pub returns-in-Some : goal.returns-in-Some
+returns-in-Some c =
+    let e : c.position.result ≡ position (bad c.args.corrections) c.args.wanted.now =
+    position_from_yields_List (bad c.args.corrections) _ _ c.position.result c.position.ensures.ran (YieldsList-from_slice c.args.wanted.now cc) (λ x b q k. search (rules, tests)) in
+    wanted_bad _ _ (sym c.in-Some.is ∙ e) c.not_in_log.ensures
 
-pub returns-then-n-eq0 : goal.returns-then-n-eq0
-returns-then-n-eq0 c = wanted_zero _ _ _ c.loop-i.invariant.1 c.loop-i-test.true c.if-n-eq0.true c.not_in_log.ensures
-
-pub returns-then-corrections-n : goal.returns-then-corrections-n
-returns-then-corrections-n c = wanted_past _ _ _ c.loop-i.invariant.1 c.loop-i-test.true c.if-n-eq0.false c.if-corrections-n.true c.not_in_log-then-corrections-n.ensures
-
-pub loop-i-preserved : goal.loop-i-preserved
-loop-i-preserved c = (search rules, wanted_next _ _ _ c.loop-i.invariant.1 c.loop-i-test.true c.if-n-eq0.false c.if-corrections-n.false)
-
-pub returns : goal.returns
-returns c = wanted_end _ _ _ c.loop-i.invariant.1 c.loop-i-test.false
+pub returns-in-None : goal.returns-in-None
+returns-in-None c =
+    let e : c.position.result ≡ position (bad c.args.corrections) c.args.wanted.now =
+    position_from_yields_List (bad c.args.corrections) _ _ c.position.result c.position.ensures.ran (YieldsList-from_slice c.args.wanted.now cc) (λ x b q k. search (rules, tests)) in
+    wanted_fine _ _ (sym c.in-None.is ∙ e)

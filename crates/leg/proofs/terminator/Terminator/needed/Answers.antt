@@ -1,7 +1,8 @@
--- The terminator's line of the table is what it needs. Assumes nothing.
-use Rattle.leg.proofs.TerminatorLaws.{row_needs, needed_table}
+-- A letter is needed where it is one of the terminator's. Assumes nothing.
+use Rattle.std.proofs.Common.{ap, ◌∙◌}
+use Rattle.slices.specs.Part.{member}
+use Rattle.slices.proofs.StdLaws.{member_std}
 use Rattle.leg.proofs.terminator.Terminator.needed.Goals as goal
 
 pub returns : goal.returns
-unfolding needed_table
-returns c = rw (c.in_line.ensures, c.number.ensures.0) (row_needs _ _)
+returns c = c.contains.ensures.value ∙ member_std c.args.letter c.letters.result.now ∙ ap (member c.args.letter) c.letters.ensures

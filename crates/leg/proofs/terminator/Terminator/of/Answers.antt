@@ -1,9 +1,14 @@
--- The code's list is the list, so the place of a name in it is its terminator's. Assumes nothing.
-use Rattle.columns.specs.Patterns.{codes, texts}
-use Rattle.columns.specs.Terminators.{terminators}
+-- The terminator of the place at which its two letters are found. Assumes nothing.
+use mathlib.Core.Path.{◌≡◌, ◌∙◌}
+use mathlib.Core.List.{[], ◌∷◌}
+use Rattle.slices.specs.Part.{part}
+use Rattle.columns.specs.Words.{columns}
+use Rattle.leg.specs.Terminator.{found_at, terminator_of}
 use Rattle.leg.proofs.TerminatorLaws.{found}
 use Rattle.leg.proofs.terminator.Terminator.of.Goals as goal
 
 pub returns : goal.returns
-unfolding terminators texts codes
-returns c = found _ _ c.place_among.ensures c.at.ensures
+unfolding part
+returns c =
+    let e : c.byte_at.result ∷ c.byte_at-2.result ∷ [] ≡ columns 48 49 c.args.rec.now = rw (c.byte_at.ensures, c.byte_at-2.ensures) in
+    found _ _ (rw e at c.place_of.ensures) c.at.ensures

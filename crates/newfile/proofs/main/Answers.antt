@@ -1,9 +1,0 @@
--- What is written lies within the buffer that was lent. Assumes nothing.
-use Rattle.answers.proofs.Lengths.{newfile_fits, answer_within, answer_counted}
-use Rattle.newfile.proofs.main.Goals as goal
-
-pub slice_bounds-out-end : goal.slice_bounds-out-end
-slice_bounds-out-end c = answer_within _ _ _ (newfile_fits _ _ _) c.newfile_answer-answer.ensures
-
-pub slice_bounds-write_all-end : goal.slice_bounds-write_all-end
-slice_bounds-write_all-end c = answer_counted _ _ _ (newfile_fits _ _ _) c.newfile_answer-answer.ensures
