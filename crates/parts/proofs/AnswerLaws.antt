@@ -10,8 +10,7 @@ use lib.Seq.{sets, sets-eq, set_at, take_at, drop-cons, length-sets, length-take
 use borrow.Author.Tests.{lt-ltb, le-ltb}
 use Rattle.slices.specs.Part.{part}
 use Rattle.slices.proofs.PartLaws.{part_all}
-use Rattle.refusals.specs.Table.{cut_short, buffer_too_short, Verdict, Accepted, Refused}
-use Rattle.refusals.specs.declared.Refusal.{Refusal}
+use Rattle.refusals.specs.Table.{cut_short, Verdict, Accepted}
 use Rattle.leg.specs.Judge.{stage, judged_parts}
 use Rattle.leg.proofs.Legality.{stage_iff}
 use Rattle.parts.specs.Record.{size_column, writing, written_by, written}
@@ -32,19 +31,10 @@ columns_count s e z = by (dec_lt (length s) 133)
 
 -- ---- writing
 
-module _ (rec : List ℕ) (n : ℕ) where
-  pub finish_short : {v : Verdict} {z : List ℕ} → n < 133 → v ≡ Refused buffer_too_short → z ≡ replicate n 0 → (v ≡ writing n rec) × (z ≡ written n rec)
-  unfolding writing written_by
-  finish_short h e f = rw (lt-ltb n 133 h) (e, f)
-
-  module _ (h : 133 ≤ n) {j : Verdict} (q : j ≡ judged_parts 0 rec) where
-    pub finish_refused : {r : Refusal} {v : Verdict} {z : List ℕ} → j ≡ Refused r → v ≡ Refused r → z ≡ replicate n 0 → (v ≡ writing n rec) × (z ≡ written n rec)
-    unfolding writing written_by
-    finish_refused f e g = rw (le-ltb n 133 h, ← q, f) (e, g)
-
-    pub finish_accepted : {z : List ℕ} → j ≡ Accepted → z ≡ rec ++ (10 ∷ replicate (n - 133) 0) → (Accepted ≡ writing n rec) × (z ≡ written n rec)
-    unfolding writing written_by
-    finish_accepted f e = rw (le-ltb n 133 h, ← q, f) (refl, e)
+pub finish_accepted : (rec : List ℕ) (n : ℕ) → 133 ≤ n → {j : Verdict} → j ≡ judged_parts 0 rec → {z : List ℕ} → j ≡ Accepted → z ≡ rec ++ (10 ∷ replicate (n - 133) 0)
+    → (Accepted ≡ writing n rec) × (z ≡ written n rec)
+unfolding writing written_by
+finish_accepted rec n h q f e = rw (le-ltb n 133 h, ← q, f) (refl, e)
 
 -- the record copied over what was lent, its line feed, and zeros past it
 module _ (rec out : List ℕ) (l : length rec ≡ 132) (h : 133 ≤ length out) where

@@ -70,6 +70,7 @@ fn refuse(r: Refusal, out: &mut [u8]) -> Verdict
 
 // Writes a record that was put together, with its line feed and zeros past it: 14 where fewer than 133 bytes are lent, then 3, 4, 5, at
 // place 0, 3 with the first column of the field. On a refusal every byte is 0.
+#[tactic(auto, unfolding(crate::specs::Record::writing, crate::specs::Record::written_by))]
 fn finish(rec: [u8; 132], out: &mut [u8]) -> Verdict
     ensures { RecordLeft rec out.old result out.new }
 {

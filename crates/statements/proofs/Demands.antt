@@ -2,7 +2,7 @@
 -- does. Each is proved in the crate that it speaks of, or in OrderLaws; here they stand side by side. That every function ends on every input, and leaves in every byte what its
 -- contract says, is what the check of its contract means.
 -- Assumes nothing.
-use Rattle.std.specs.Prelude.{Err}
+use Rattle.std.specs.Prelude.{Ok, Err}
 use mathlib.Core.Path.{◌≡◌}
 use mathlib.Core.List.{List, [], ◌∷◌, ◌++◌, Memᴰ}
 use mathlib.Core.Logic.{◌↔◌, ◌⊎◌}
@@ -23,7 +23,7 @@ use Rattle.fields.specs.Continuation.{continuation_of, content_of, render_contin
 use Rattle.fields.specs.declared.primary.Leg.{Leg}
 use Rattle.fields.specs.declared.continuation.Continuation.{Continuation}
 use Rattle.parts.specs.Given.{Alone, LegGiven, ContinuationGiven}
-use Rattle.parts.specs.Record.{reading_of, writing, written}
+use Rattle.parts.specs.Record.{reading_of, verdict_of, writing, written}
 use Rattle.parts.specs.declared.Parts.TheVariants as read
 use Rattle.parts.proofs.Theorems as parts
 use Rattle.routes.specs.Files.{file_verdict}
@@ -69,7 +69,7 @@ use Rattle.statements.proofs.OrderLaws as order
 pub file_refused : (f : List ℕ) (r : Refusal) → (file_verdict f ≡ Refused r) ↔ First r (file_order f)
 file_refused = order.file_first
 
-pub record_refused : (s : List ℕ) (r : Refusal) → ((reading_of s).verdict ≡ Refused r) ↔ First r (read_order s)
+pub record_refused : (s : List ℕ) (r : Refusal) → (verdict_of (reading_of s) ≡ Refused r) ↔ First r (read_order s)
 record_refused = order.read_first
 
 pub parts_refused : (lent : ℕ) (rec : List ℕ) (r : Refusal) → (writing lent rec ≡ Refused r) ↔ First r (write_order lent rec)
@@ -146,7 +146,7 @@ pub file_accepted : (f : List ℕ) → (file_verdict f ≡ Accepted) ↔ LegalFi
 file_accepted = routes.accepted_iff
 
 -- One record read alone is accepted exactly when it is a legal record of 132 columns and its line feed.
-pub record_accepted : (s : List ℕ) → ((reading_of s).verdict ≡ Accepted) ↔ ((rec : List ℕ) × Alone rec s × Legal rec)
+pub record_accepted : (s : List ℕ) → (verdict_of (reading_of s) ≡ Accepted) ↔ ((rec : List ℕ) × Alone rec s × Legal rec)
 record_accepted = parts.reading_iff
 
 -- A log's text, beside so many frozen records, is accepted exactly when it is what paper 01 describes.
@@ -161,23 +161,23 @@ pub log_accepted : (frozen log : List ℕ) → (log_verdict frozen log ≡ Accep
     × (run procedures (records frozen) (log_of l) ≡ some last))
 log_accepted = log_runs
 
--- Every accepted record is read into its own parts: a leg, or a continuation with its 83 bytes; and never into nothing.
+-- Every accepted record is read into its own parts: a leg, or a continuation with its 83 bytes. An answer holds parts or a refusal, and nothing else.
 pub leg_read_lem : (rec s : List ℕ) → Alone rec s → LegalLeg rec
-    → reading_of s ≡ record { verdict = Accepted; parts = read.Leg (leg_of rec); content = replicate 83 0 }
+    → reading_of s ≡ Ok (read.Leg (leg_of rec))
 leg_read_lem = parts.leg_read_lem
 
 pub continuation_read : (rec s : List ℕ) → Alone rec s → ContinuationContent rec
-    → reading_of s ≡ record { verdict = Accepted; parts = read.Continuation (continuation_of rec); content = content_of rec }
+    → reading_of s ≡ Ok (read.Continuation (continuation_of rec) (content_of rec))
 continuation_read = parts.continuation_read
 
 -- An accepted record read into parts and written again is the same bytes, with zeros past them.
-pub leg_the_same : (s : List ℕ) (g : Leg) (content : List ℕ) (lent : ℕ)
-    → reading_of s ≡ record { verdict = Accepted; parts = read.Leg g; content = content } → 133 ≤ lent
+pub leg_the_same : (s : List ℕ) (g : Leg) (lent : ℕ)
+    → reading_of s ≡ Ok (read.Leg g) → 133 ≤ lent
     → (writing lent (render_leg g) ≡ Accepted) × (written lent (render_leg g) ≡ s ++ replicate (lent - 133) 0)
 leg_the_same = parts.leg_read_written
 
 pub continuation_the_same : (s : List ℕ) (c : Continuation) (content : List ℕ) (lent : ℕ)
-    → reading_of s ≡ record { verdict = Accepted; parts = read.Continuation c; content = content } → 133 ≤ lent
+    → reading_of s ≡ Ok (read.Continuation c content) → 133 ≤ lent
     → (writing lent (render_continuation c content) ≡ Accepted) × (written lent (render_continuation c content) ≡ s ++ replicate (lent - 133) 0)
 continuation_the_same = parts.continuation_read_written
 

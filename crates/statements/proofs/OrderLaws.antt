@@ -29,7 +29,7 @@ use Rattle.columns.proofs.BadByte.{no_legal_record}
 use Rattle.leg.specs.Stages.{odd_one, companion_column, needable, missing, needed_of, needed_column}
 use Rattle.leg.specs.declared.stages.Needable.{Needable}
 use Rattle.leg.specs.Judge.{stage, judged_leg, by_kind, judged_by, judged, judged_parts}
-use Rattle.parts.specs.Record.{alone, reading_of, writing, size_column, columns_of}
+use Rattle.parts.specs.Record.{alone, reading_of, verdict_of, writing, size_column, columns_of}
 use Rattle.parts.proofs.Theorems.{reading_verdict}
 use Rattle.routes.specs.InTurn.{in_turn}
 use Rattle.routes.specs.Places.{Every}
@@ -166,7 +166,7 @@ needed_refuses place rec =
     (missing_order place rec _ needable (refl, (refl, (refl, (refl, (refl, (refl, (refl, (refl, (refl, (refl, (refl, tt))))))))))))
 
 -- A record read alone is refused exactly by the first in its order.
-pub read_first : (s : List ℕ) (r : Refusal) → ((reading_of s).verdict ≡ Refused r) ↔ First r (read_order s)
+pub read_first : (s : List ℕ) (r : Refusal) → (verdict_of (reading_of s) ≡ Refused r) ↔ First r (read_order s)
 unfolding alone judged
 read_first s = by_order (read_order s) (reading_verdict s ∙ alone_order)
   where

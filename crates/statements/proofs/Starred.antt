@@ -18,9 +18,10 @@ use Rattle.columns.specs.Samples.{◌at◌is◌, approach, full, notes}
 use Rattle.leg.specs.Terminator.{in_order, terminator_at, terminator_of, needs, needed, among, ends_at_fix, is_holding, name_of, terminator_number}
 use Rattle.leg.specs.Stages.{odd_one, missing, companion_column, needed_of, needed_column}
 use Rattle.leg.specs.Judge.{stage, judged_leg, judged}
-use Rattle.fields.specs.Quantities.{altitude_of, distance_of, feet_of}
+use Rattle.fields.specs.Optional.{unless_blank}
+use Rattle.fields.specs.Quantities.{altitude_said, distance_said, feet_of}
 use Rattle.fields.specs.Leg.{leg_of}
-use Rattle.parts.specs.Record.{size_column, alone, refused_reading, leg_reading, continuation_reading, reading_of}
+use Rattle.parts.specs.Record.{size_column, alone, reading_of}
 use Rattle.routes.specs.InTurn.{in_turn}
 use Rattle.routes.specs.Sources.{leading, records, pieces, behind_records, record_at, record_within, in_use, sources_of, sources_for, sources_to, starts}
 use Rattle.routes.specs.LegTable.{named, page, route_kinds}
@@ -47,5 +48,5 @@ use Rattle.statements.specs.Starred.{Meets, starred, leg, departure, only, froze
 
 -- Every row is met. The definitions that the rows come down to are opened, so that they compute.
 pub cases : Every Meets starred
-unfolding starred full notes approach ◌at◌is◌ codes leg departure only frozen line replaced log unended doubled lines reading_of leg_reading continuation_reading refused_reading alone size_column leg_of altitude_of distance_of feet_of is_holding value judged judged_leg stage companion_column odd_one needed_column needed_of missing blank member part terminator_of terminator_at in_order terminator_number name_of among ends_at_fix needed needs first_at equal order bad_byte run longest layout_of kind_of first_of matches stands fits_all fits primary continuation file_verdict size_stage tail_stage tail_column in_turn leading records pieces behind_records walked walk_from finished last judged_next primary_after continuation_stage continuation_column awaits order_stage sequence_stage leg_stage leg_stands ending_stage followed ends_route first_leg last_leg may_begin may_end kind_number kind_at of_kind route_kinds named pair readable mark page old_pair only_first follows_fix bind pick_of opened length_stage read_log read line_of whole reach heading change digits_by decimal wanted_stage carried taken_of wants members_from leading_lines by_correction ran_by corrected_by lines_applied line_applied touched together touched_judged fails_at refused_route fault_as line_feeds line_at failure_as failure_of settled first_relying reason_of reasons_by reasons_of line_in with_source without_record count_before not_before has_place is_record put_at left_out record_at record_within in_use sources_of sources_for sources_to starts place_of operation operations closure_to add_relied last_on numbered add touches? route_of_op same? ℕ_discrete
+unfolding starred full notes approach ◌at◌is◌ codes leg departure only frozen line replaced log unended doubled lines reading_of alone size_column leg_of unless_blank altitude_said distance_said feet_of is_holding value judged judged_leg stage companion_column odd_one needed_column needed_of missing blank member part terminator_of terminator_at in_order terminator_number name_of among ends_at_fix needed needs first_at equal order bad_byte run longest layout_of kind_of first_of matches stands fits_all fits primary continuation file_verdict size_stage tail_stage tail_column in_turn leading records pieces behind_records walked walk_from finished last judged_next primary_after continuation_stage continuation_column awaits order_stage sequence_stage leg_stage leg_stands ending_stage followed ends_route first_leg last_leg may_begin may_end kind_number kind_at of_kind route_kinds named pair readable mark page old_pair only_first follows_fix bind pick_of opened length_stage read_log read line_of whole reach heading change digits_by decimal wanted_stage carried taken_of wants members_from leading_lines by_correction ran_by corrected_by lines_applied line_applied touched together touched_judged fails_at refused_route fault_as line_feeds line_at failure_as failure_of settled first_relying reason_of reasons_by reasons_of line_in with_source without_record count_before not_before has_place is_record put_at left_out record_at record_within in_use sources_of sources_for sources_to starts place_of operation operations closure_to add_relied last_on numbered add touches? route_of_op same? ℕ_discrete
 cases = (refl, (refl, (refl, (refl, (refl, (refl, (refl, (refl, (refl, (refl, (refl, (refl, (refl, (refl, (refl, (refl, (refl, (refl, (refl, (refl, (refl, (refl, (refl, (refl, (refl, (refl, (refl, (refl, (refl, (refl, (refl, ((refl, refl), (refl, tt)))))))))))))))))))))))))))))))))

@@ -3,7 +3,7 @@
 -- a row means is said by the definitions that the contracts of `parts::read`, `routes::check`, `selection::pick`, `reasons` and `failing` cite:
 -- `reading_of`, `file_verdict`, `pick_of`, `reasons_of` and `failure_of`. That every row is met is `cases`, in proofs/Starred.
 -- Assumes nothing.
-use Rattle.std.specs.Prelude.{◌≡◌, List, [], ◌∷◌, ◌++◌, map, ℕ, ℤ, negsuc, length}
+use Rattle.std.specs.Prelude.{◌≡◌, List, [], ◌∷◌, ◌++◌, map, ℕ, ℤ, negsuc, length, Option as Optional, Some, Ok, Err}
 use Rattle.std.proofs.Math.Option
 use Rattle.std.proofs.Math.Option.{Option, none, some, bind}
 use Prim.Native.String.{String}
@@ -11,8 +11,7 @@ use Rattle.columns.specs.Patterns.{codes}
 use Rattle.columns.specs.Samples.{◌at◌is◌, approach, full, notes}
 use Rattle.refusals.specs.Table.{refusal, Verdict, Accepted, Refused}
 use Rattle.fields.specs.Quantities.{feet_of}
-use Rattle.parts.specs.Record.{reading_of}
-use Rattle.parts.specs.declared.Parts.{Parts}
+use Rattle.parts.specs.Record.{Reading, reading_of, verdict_of}
 use Rattle.parts.specs.declared.Parts.TheVariants as parts
 use Rattle.fields.specs.declared.primary.Leg.{Leg}
 use Rattle.fields.specs.declared.quantities.Altitude.{Altitude}
@@ -67,27 +66,27 @@ pub data Row : Type 0 where
 abbrev pub ended : List ℕ → List ℕ
 ended rec = rec ++ 10 ∷ []
 
-abbrev pub leg_of_parts : Parts → Option Leg
-leg_of_parts parts.Nothing = none
-leg_of_parts (parts.Leg g) = some g
-leg_of_parts (parts.Continuation c) = none
+abbrev pub leg_in : Reading → Option Leg
+leg_in (Ok (parts.Leg g)) = some g
+leg_in (Ok (parts.Continuation c content)) = none
+leg_in (Err r) = none
 
 -- the leg that is read
 abbrev pub leg_read : List ℕ → Option Leg
-leg_read rec = leg_of_parts (reading_of (ended rec)).parts
+leg_read rec = leg_in (reading_of (ended rec))
 
-abbrev pub altitude_read : List ℕ → Option Altitude
+abbrev pub altitude_read : List ℕ → Option (Optional Altitude)
 altitude_read rec = Option.map (λ (g : Leg). g.altitude) (leg_read rec)
 
-abbrev pub distance_read : List ℕ → Option Distance
+abbrev pub distance_read : List ℕ → Option (Optional Distance)
 distance_read rec = Option.map (λ (g : Leg). g.distance) (leg_read rec)
 
 abbrev pub SaidOf : List ℕ → Said → Type 0
-SaidOf rec good = (reading_of (ended rec)).verdict ≡ Accepted
-SaidOf rec (refused n c) = (reading_of (ended rec)).verdict ≡ Refused (refusal n 1 c)
-SaidOf rec (altitude_is a) = altitude_read rec ≡ some a
+SaidOf rec good = verdict_of (reading_of (ended rec)) ≡ Accepted
+SaidOf rec (refused n c) = verdict_of (reading_of (ended rec)) ≡ Refused (refusal n 1 c)
+SaidOf rec (altitude_is a) = altitude_read rec ≡ some (Some a)
 SaidOf rec (feet_are z) = bind (altitude_read rec) feet_of ≡ some z
-SaidOf rec (distance_is d) = distance_read rec ≡ some d
+SaidOf rec (distance_is d) = distance_read rec ≡ some (Some d)
 
 abbrev pub answer_of : Pick → Answer
 answer_of (refused_by r) = refuses r.number r.place r.column
