@@ -1,14 +1,16 @@
 -- Laws of a run over any index and any sources: its bounds, and a law for each way that it ends.
 -- Assumes nothing.
 use mathlib.Core.Path.{◌≡◌, refl, sym, ap, ◌∙◌}
-use mathlib.Core.Bool.{Bool, true, false, cond}
+use mathlib.Core.Logic.{◌⊎◌, inl, inr, ⊎_elim}
+use mathlib.Core.Bool.{Bool, true, false, cond, ◌&&◌}
 use mathlib.Core.List.{List, [], ◌∷◌}
 use Prim.Native.Nat.{ℕ, zero, suc, ◌+◌, ◌≤◌, ◌<◌}
 use native.Mathlib.Omega.{arith}
 use lib.Dec.{leb}
-use lib.ListN.{length, get_or, take, drop, drop_of_length-le}
+use lib.ListN.{length, get_or-eq_default, take, drop}
 use borrow.Author.Tests.{le-leb, lt-leb, leb-true}
 use Rattle.std.specs.Prelude.{Ok, Err}
+use Rattle.std.specs.List.{AllWithin, HoldsAt}
 use Rattle.slices.proofs.Cases.{and_left, and_right, both}
 use Rattle.refusals.specs.Table.{too_many_records, log_too_long, Accepted, Refused}
 use Rattle.refusals.specs.declared.Refusal.{Refusal}
@@ -42,6 +44,21 @@ unfolding all_within
 all_within_lem [] h = refl
 all_within_lem (x ∷ es) h = both (le-leb x.at 60000 (h 0)) (all_within_lem es (λ k. h (suc k)))
 
+below_or : (i n : ℕ) → (i < n) ⊎ (n ≤ i)
+below_or i zero = inr (omega arith)
+below_or zero (suc n) = inl (omega arith)
+below_or (suc i) (suc n) = ⊎_elim (λ (h : i < n). inl (omega arith)) (λ (h : n ≤ i). inr (omega arith)) (below_or i n)
+
+one_past : (es : List Entry) (i : ℕ) → i < length es → HoldsAt (λ (e : Entry). 60000 < e.at) es i → all_within es ≡ false
+unfolding all_within
+one_past [] i h p = absurd (omega arith)
+one_past (e ∷ es) zero h p = rw (lt-leb e.at 60000 (p e))
+one_past (e ∷ es) (suc i) h p = by (leb e.at 60000) (one_past es i (omega arith) (λ d. p d))
+  where
+    by : (b : Bool) → all_within es ≡ false → (b && all_within es) ≡ false
+    by true w = w
+    by false w = refl
+
 -- the lines that count are the first of an index
 pub lines_front : (index : Index) (n : ℕ) → n ≤ length index.entries → take n index.entries ≡ entries_from index 0 n
 unfolding entries_from
@@ -67,23 +84,19 @@ module _ (index : Index) (state : Sources) where
       judged true e = rw (le-leb state.count 480 h, le-leb index.count 444 k, e)
       judged false e = rw (le-leb state.count 480 h, le-leb index.count 444 k, e)
 
-      -- the lines from i on are left
-      module _ (i : ℕ) (w : all_within index.entries ≡ all_within (drop i index.entries)) where
-        pub bound_past : {r : Refusal} → i < length index.entries → 60000 < (get_or index.entries i no_entry).at → r ≡ log_too_long → bound_stage index state ≡ Refused r
-        unfolding all_within
-        bound_past l g e = judged false (w ∙ rw (line_next index.entries i l, lt-leb (get_or index.entries i no_entry).at 60000 g)) ∙ ap Refused (sym e)
+      pub bound_past : {r : Refusal} → (i : ℕ) × (i < length index.entries) × HoldsAt (λ (e : Entry). 60000 < e.at) index.entries i → r ≡ log_too_long → bound_stage index state ≡ Refused r
+      bound_past h e = judged false (one_past index.entries h.0 h.1 h.2) ∙ ap Refused (sym e)
 
-        pub bound_holds : length index.entries ≤ i → bound_stage index state ≡ Accepted
-        unfolding all_within
-        bound_holds l = judged true (w ∙ ap all_within (drop_of_length-le index.entries l))
+      module _ (w : AllWithin (λ (e : Entry). e.at ≤ 60000) index.entries 0 (length index.entries)) where
+        pub bound_within : Within index
+        bound_within i =
+            ⊎_elim
+            (λ (n : i < length index.entries). w i no_entry (omega arith) n)
+            (λ (n : length index.entries ≤ i). rw (get_or-eq_default index.entries no_entry n) (omega arith))
+            (below_or i (length index.entries))
 
-        pub bound_within : length index.entries ≤ i → Within index
-        unfolding all_within
-        bound_within l = within_all index.entries (w ∙ ap all_within (drop_of_length-le index.entries l))
-
-pub bound_next : (es : List Entry) (i : ℕ) → all_within es ≡ all_within (drop i es) → i < length es → (get_or es i no_entry).at ≤ 60000 → all_within es ≡ all_within (drop (i + 1) es)
-unfolding all_within
-bound_next es i w l g = w ∙ rw (line_next es i l, le-leb (get_or es i no_entry).at 60000 g)
+        pub bound_holds : bound_stage index state ≡ Accepted
+        bound_holds = judged true (all_within_lem index.entries bound_within)
 
 -- what holds of an index and of sources that pass
 pub record Bound (index : Index) (state : Sources) : Type 0 where

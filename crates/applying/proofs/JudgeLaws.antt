@@ -2,7 +2,8 @@
 -- Assumes nothing.
 use Rattle.refusals.specs.Table.{Verdict, Accepted, Refused}
 use mathlib.Core.Path.{◌≡◌, refl, sym, ap, ap₂, ◌∙◌}
-use mathlib.Core.Bool.{Bool, true, false, cond, ◌||◌}
+use mathlib.Core.Bool.{Bool, true, false, cond, not, ◌||◌}
+use Rattle.slices.specs.Search.{first_at}
 use mathlib.Core.List.{List, [], ◌∷◌, map}
 use Prim.Native.Nat.{ℕ, zero, suc, ◌+◌, ◌≤◌, ◌<◌}
 use native.Mathlib.Omega.{arith}
@@ -41,19 +42,15 @@ module _ (f l : List ℕ) where
 
   -- ---- where a route ends
 
-  module _ (xs : List ℕ) (s k : ℕ) where
-    pub together_end : {x : ℕ} → x ≡ k + together f l s (drop k xs) → length xs ≤ k → k ≡ x
-    unfolding together
-    together_end e n = let z : together f l s (drop k xs) ≡ 0 = rw (drop_of_length-le xs n) in omega arith
-
-    module _ (n : k < length xs) {b : Bool} (e : b ≡ same_route f l s (get_or xs k 0)) where
-      pub together_stop : b ≡ false → together f l s (drop k xs) ≡ 0
-      unfolding together
-      together_stop t = rw (drop-cons xs k 0 n, ← e, t)
-
-      pub together_next : b ≡ true → together f l s (drop k xs) ≡ suc (together f l s (drop (k + 1) xs))
-      unfolding together
-      together_next t = rw (drop-cons xs k 0 n, ← e, t, add-one)
+  pub together_first : (s : ℕ) (xs : List ℕ) → first_at (λ (x : ℕ). not (same_route f l s x)) xs ≡ together f l s xs
+  unfolding first_at together
+  together_first s [] = refl
+  together_first s (x ∷ xs) = by (same_route f l s x) (together_first s xs)
+    where
+      by : (b : Bool) → first_at (λ (y : ℕ). not (same_route f l s y)) xs ≡ together f l s xs
+          → cond (not b) 0 (suc (first_at (λ (y : ℕ). not (same_route f l s y)) xs)) ≡ cond b (suc (together f l s xs)) 0
+      by true w = ap suc w
+      by false w = refl
 
   pub together_within : (s : ℕ) (xs : List ℕ) → together f l s xs ≤ length xs
   unfolding together

@@ -1,5 +1,6 @@
 -- The laws of this crate; Bridge ties what is run to the theory of selection, OriginLaws and LastPut say where each record comes from.
 mod ShiftLaws
+mod FirstLaws
 pub mod StateLaws
 pub mod ApplyLaws
 mod JudgeLaws

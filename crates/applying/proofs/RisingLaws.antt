@@ -227,15 +227,16 @@ abbrev pub Reached : (f l xs rec : List ℕ) → ℕ → Type 0
 Reached f l xs rec i = (i ≡ length xs) ⊎ (not_before f l rec (get_or xs i 0) ≡ true)
 
 module _ (f l xs : List ℕ) where
-  pub tested_next : (i : ℕ) → 1 ≤ i → Tested f l xs i → {a b : List ℕ} → a ≡ record_at f l (get_or xs (i - 1) 0) → b ≡ record_at f l (get_or xs i 0)
-      → {t : Bool} → t ≡ not_less (order (place_of a) (place_of b)) → t ≡ false → Tested f l xs (i + 1)
-  tested_next (suc i) k w {a} {b} p q t e j n =
-      let o : order (place_of a) (place_of b) ≡ Less = less_of (order (place_of a) (place_of b)) (sym t ∙ e) in
+  pub tested_next : (i : ℕ) → 1 ≤ i → Tested f l xs i → {b : List ℕ} → b ≡ record_at f l (get_or xs i 0)
+      → {t : Bool} → t ≡ not_before f l b (get_or xs (i - 1) 0) → t ≡ false → Tested f l xs (i + 1)
+  unfolding not_before
+  tested_next (suc i) k w {b} q t e j n =
       let z : suc i - 1 ≡ i = omega arith in
       let now : Before (place f l (get_or xs i 0)) (place f l (get_or xs (suc i) 0)) =
-      sym (ap₂ (λ (x y : List ℕ). order (place_of x) (place_of y)) (p ∙ ap (λ (m : ℕ). record_at f l (get_or xs m 0)) z) q) ∙ o in
+      less_of (order (place f l (get_or xs i 0)) (place f l (get_or xs (suc i) 0)))
+      (sym (ap₂ (λ (x : List ℕ) (m : ℕ). not_less (order (place f l (get_or xs m 0)) (place_of x))) q z) ∙ sym t ∙ e) in
       ⊎_elim (λ (s : j < i). w j (omega arith)) (λ (s : j ≡ i). subst (λ (m : ℕ). Before (place f l (get_or xs m 0)) (place f l (get_or xs (suc m) 0))) (sym s) now) (below j i (omega arith))
-  tested_next zero k w p q t e j n = absurd (omega arith)
+  tested_next zero k w q t e j n = absurd (omega arith)
 
   pub tested_all : (i : ℕ) → length xs ≤ i → Tested f l xs i → Rises f l xs
   tested_all i k w = neighbours_rise f l xs (λ j n. w j (omega arith))

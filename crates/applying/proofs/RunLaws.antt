@@ -1,25 +1,23 @@
 -- Laws of corrections one after the other: where the lines of one end, and one turn of the loop that applies them.
 -- Assumes nothing.
 use mathlib.Core.Path.{◌≡◌, refl, sym, ap, ◌∙◌}
-use mathlib.Core.Bool.{Bool, true, false, cond}
+use mathlib.Core.Bool.{Bool, true, false, cond, not}
 use mathlib.Core.List.{List, [], ◌∷◌}
 use Prim.Native.Nat.{ℕ, suc, ◌+◌, ◌-◌, ◌≤◌, ◌<◌}
 use native.Mathlib.Omega.{arith}
 use native.Mathlib.Nat.{sub-zero}
 use lib.Dec.{eqb}
-use lib.ListN.{length, get_or, take, drop, drop_of_length-le}
-use borrow.Author.Tests.{eq-eqb, ne_eqb}
+use lib.ListN.{length, take, drop}
 use Rattle.std.specs.Prelude.{Ok, Err}
+use Rattle.slices.specs.Search.{first_at}
 use Rattle.slices.proofs.PartLaws.{one_less}
 use Rattle.corrections.specs.declared.Entry.{Entry}
-use Rattle.corrections.specs.Reading.{no_entry}
 use Rattle.history.specs.Sets.{Numbers}
 use Rattle.applying.specs.State.{Standing}
 use Rattle.applying.specs.Apply.{fails_at}
 use Rattle.applying.specs.Correct.{Outcome, stopped, reached, after_lines, corrected_by, corrected_if, Comes}
 use Rattle.applying.specs.Run.{leading_lines, by_correction, onward, ran_by}
 use Rattle.applying.specs.declared.correct.Stopped.{Stopped}
-use Rattle.applying.proofs.ApplyLaws.{line_next}
 use Rattle.applying.proofs.RisingLaws.{not_stopped, corrected_lines}
 
 -- ---- where the lines of a correction end
@@ -33,19 +31,16 @@ leading_within n (e ∷ es) = by (eqb e.correction n) (leading_within n es)
     by true w = omega arith
     by false w = omega arith
 
-module _ (n : ℕ) (es : List Entry) (k : ℕ) where
-  pub leading_end : length es ≤ k → leading_lines n (drop k es) ≡ 0
-  unfolding leading_lines
-  leading_end h = rw (drop_of_length-le es h)
-
-  module _ (h : k < length es) where
-    pub leading_stop : ((get_or es k no_entry).correction ≡ n → ⊥) → leading_lines n (drop k es) ≡ 0
-    unfolding leading_lines
-    leading_stop d = rw (line_next es k h, ne_eqb (get_or es k no_entry).correction n d)
-
-    pub leading_next : (get_or es k no_entry).correction ≡ n → leading_lines n (drop k es) ≡ suc (leading_lines n (drop (k + 1) es))
-    unfolding leading_lines
-    leading_next d = rw (line_next es k h, eq-eqb (get_or es k no_entry).correction n d)
+-- they are those before the first of another
+pub leading_first : (n : ℕ) (es : List Entry) → first_at (λ (e : Entry). not (eqb e.correction n)) es ≡ leading_lines n es
+unfolding first_at leading_lines
+leading_first n [] = refl
+leading_first n (e ∷ es) = by (eqb e.correction n) (leading_first n es)
+  where
+    by : (b : Bool) → first_at (λ (e : Entry). not (eqb e.correction n)) es ≡ leading_lines n es
+        → cond (not b) 0 (suc (first_at (λ (e : Entry). not (eqb e.correction n)) es)) ≡ cond b (suc (leading_lines n es)) 0
+    by true w = ap suc w
+    by false w = refl
 
 -- ---- the corrections that are left
 

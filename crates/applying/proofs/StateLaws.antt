@@ -4,9 +4,8 @@ use mathlib.Core.Path.{◌≡◌, refl, sym, ap, ◌∙◌}
 use mathlib.Core.Bool.{Bool, true, false, false≢true}
 use mathlib.Core.List.{List, [], ◌∷◌}
 use mathlib.Core.Option.{some, none}
-use Prim.Native.Nat.{ℕ, zero, suc, ◌+◌, ◌≤◌, ◌<◌}
+use Prim.Native.Nat.{ℕ, zero, suc, ◌≤◌, ◌<◌}
 use native.Mathlib.Omega.{arith}
-use native.Mathlib.Nat.{zero-add}
 use lib.ListN.{length, get_or, drop, drop_of_length-le}
 use lib.Seq.{drop-cons, length-take-le}
 use borrow.Author.Tests.{le-leb, lt-leb}
@@ -17,7 +16,7 @@ use Rattle.std.specs.declared.cmp.Ordering.TheVariants.{Less, Equal, Greater}
 use Rattle.std.specs.Ordering.{MatchOrdering, is_eq, is_ge}
 use Rattle.slices.proofs.OrderLaws.{after, order_append}
 use Rattle.slices.proofs.PartLaws.{length_part}
-use Rattle.slices.proofs.SearchLaws.{Come, starts, finds, goes_on, ends, first_within}
+use Rattle.slices.proofs.SearchLaws.{Come, first_within}
 use Rattle.routes.specs.Places.{place_of}
 use Rattle.routes.specs.Sources.{record_at, in_use}
 use Rattle.routes.specs.declared.Sources.{Sources}
@@ -66,26 +65,7 @@ in_use-length st h long = length-take-le st.count st.at (omega arith)
 abbrev pub Searched : (frozen log rec xs : List ℕ) → ℕ → Type 0
 Searched f l rec xs i = Come (not_before f l rec) 0 xs 0 i
 
-pub search_starts : (f l rec xs : List ℕ) → Searched f l rec xs 0
-search_starts f l rec xs = starts (not_before f l rec) 0 xs 0
-
 module _ (f l rec xs : List ℕ) (i : ℕ) where
-  module _ (c : Searched f l rec xs i) (k : i < length xs) (x : List ℕ) {b : Bool} (e : x ≡ record_at f l (get_or xs i 0)) (t : b ≡ not_less (order (place_of x) (place_of rec))) where
-    test : not_before f l rec (get_or xs i 0) ≡ b
-    unfolding not_before
-    test = rw (← e, ← t)
-
-    pub search_finds : b ≡ true → i ≡ count_before f l rec xs
-    unfolding count_before
-    search_finds q = finds (not_before f l rec) 0 xs 0 i c k (test ∙ q) ∙ zero-add _
-
-    pub search_goes_on : b ≡ false → Searched f l rec xs (i + 1)
-    search_goes_on q = goes_on (not_before f l rec) 0 xs 0 i c k (test ∙ q)
-
-  pub search_ends : Searched f l rec xs i → length xs ≤ i → i ≡ count_before f l rec xs
-  unfolding count_before
-  search_ends c k = ends (not_before f l rec) 0 xs 0 i c k ∙ zero-add _
-
   -- ---- what stands at a place
 
   module _ {ys : List ℕ} (e : ys ≡ xs) where

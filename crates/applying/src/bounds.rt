@@ -18,10 +18,8 @@ pub(crate) fn bounds<'a>(index: &'a Index, state: &Sources) -> Result<Lines<'a>,
         return Err(Refusal::log_too_long());
     }
     let entries: &[Entry] = &index.entries;
-    for entry in entries {
-        if LONGEST_LOG < entry.at as usize {
-            return Err(Refusal::log_too_long());
-        }
+    if entries.iter().any(|entry| LONGEST_LOG < entry.at as usize) {
+        return Err(Refusal::log_too_long());
     }
     Ok(Lines {
         entries: &entries[..index.count],

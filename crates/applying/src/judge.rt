@@ -34,13 +34,11 @@ fn route_end(state: &State, from: usize, source: u32) -> usize
     requires { from ≤ length state.now.sources }
     ensures { result ≡ from + together state.now.frozen state.now.log source (drop from state.now.sources) }
 {
-    let sources = state.sources();
-    for k in from..sources.len() {
-        if !state.same_route(source, sources[k]) {
-            return k;
-        }
-    }
-    sources.len()
+    let behind = &state.sources()[from..];
+    from + behind
+        .iter()
+        .position(|next| !state.same_route(source, *next))
+        .unwrap_or(behind.len())
 }
 
 // Judges the routes that lines name, in rising order; or tells of the first that is refused.

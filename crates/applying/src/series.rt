@@ -13,12 +13,10 @@ use corrections::Entry;
 fn leading_lines(entries: &[Entry], n: usize) -> usize
     ensures { result ≡ leading_lines n entries.now }
 {
-    for k in 0..entries.len() {
-        if entries[k].correction as usize != n {
-            return k;
-        }
-    }
-    entries.len()
+    entries
+        .iter()
+        .position(|line| line.correction as usize != n)
+        .unwrap_or(entries.len())
 }
 
 // Applies those of so many corrections that are marked, in order, to a state. The lines of all stand one after the other.

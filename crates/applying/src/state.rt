@@ -9,7 +9,6 @@ ghost use Rattle.routes.specs.Sources.{record_at, in_use, sources_for};
 ghost use Rattle.routes.specs.Walk.{walked};
 ghost use Rattle.applying.specs.Apply.{same_route};
 ghost use Rattle.applying.specs.State.{
-  not_less,
   not_before,
   count_before,
   has_place,
@@ -65,11 +64,11 @@ fn place_order(a: &[u8], b: &[u8]) -> Ordering
         .then_with(|| compare(a, 38, b, 38, 1))
 }
 
-// Whether the first record's place is not before the second's.
-fn reaches(a: &[u8], b: &[u8]) -> bool
-    ensures { result ≡ not_less (order (place_of a.now) (place_of b.now)) }
+// Whether the record of a source does not stand before another.
+fn not_before<'a>(texts: Texts<'a>, source: u32, rec: &[u8]) -> bool
+    ensures { result ≡ not_before texts.entry.frozen.now texts.entry.log.now rec.now source }
 {
-    place_order(a, b).is_ge()
+    place_order(texts.record(source), rec).is_ge()
 }
 
 // Whether the places of some sources rise. Asked once; every change of a state keeps it so.
@@ -77,7 +76,7 @@ fn rises<'a>(texts: Texts<'a>, sources: &[u32]) -> bool
     ensures { InOrder texts.entry.frozen.now texts.entry.log.now result sources.now }
 {
     for i in 1..sources.len() {
-        if reaches(texts.record(sources[i - 1]), texts.record(sources[i])) {
+        if not_before(texts, sources[i - 1], texts.record(sources[i])) {
             return false;
         }
     }
@@ -88,12 +87,10 @@ fn rises<'a>(texts: Texts<'a>, sources: &[u32]) -> bool
 fn count_in_turn<'a>(texts: Texts<'a>, sources: &[u32], rec: &[u8]) -> usize
     ensures { result ≡ count_before texts.entry.frozen.now texts.entry.log.now rec.now sources.now }
 {
-    for i in 0..sources.len() {
-        if reaches(texts.record(sources[i]), rec) {
-            return i;
-        }
-    }
-    sources.len()
+    sources
+        .iter()
+        .position(|source| not_before(texts, *source, rec))
+        .unwrap_or(sources.len())
 }
 
 // The same where places rise.
@@ -101,11 +98,7 @@ fn count_by_halves<'a>(texts: Texts<'a>, sources: &[u32], rec: &[u8]) -> usize
     requires { Rising (map place_of (map (record_at texts.frozen.now texts.log.now) sources.now)) }
     ensures { result ≡ count_before texts.entry.frozen.now texts.entry.log.now rec.now sources.now }
 {
-    sources.partition_point(
-        |source: &u32| -> bool
-            ensures { result ≡ not (not_before texts.entry.frozen.now texts.entry.log.now rec.entry.now source.now) }
-        { !reaches(texts.record(*source), rec) },
-    )
+    sources.partition_point(|source| !not_before(texts, *source, rec))
 }
 
 // Some sources by themselves, with zeros past them.

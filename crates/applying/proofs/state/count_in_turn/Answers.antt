@@ -1,19 +1,17 @@
--- By the invariant: what is left of the search gives the answer. Assumes nothing.
-use Rattle.applying.proofs.StateLaws.{search_starts, search_finds, search_goes_on, search_ends}
-use mathlib.Core.Path.{◌≡◌, sym, ◌∙◌}
-use lib.ListN.{length}
-use native.Mathlib.Omega.{arith}
+-- By what the search for a position answers. Assumes nothing.
+use Rattle.applying.proofs.FirstLaws.{first_found}
+use Rattle.std.proofs.lemmas.Iterator.{IsFirst-from_position, YieldsList-from_slice}
+use Rattle.applying.specs.State.{not_before, count_before}
+use mathlib.Core.Path.{◌≡◌, ◌∙◌}
+use mathlib.Core.Bool.{true, false}
+use Prim.Native.Nat.{ℕ}
+use borrow.Author.Rules.{rules}
+use borrow.Author.Tests.{tests}
 use Rattle.applying.proofs.state.count_in_turn.Goals as goal
 
-pub loop-i-init : goal.loop-i-init
-loop-i-init c = search_starts _ _ _ _
-
-pub returns-then-reaches : goal.returns-then-reaches
-returns-then-reaches c = search_finds _ _ _ _ _ c.loop-i.invariant c.loop-i-test.true _ c.record.ensures c.reaches.ensures c.if-reaches.true
-
-pub loop-i-preserved : goal.loop-i-preserved
-loop-i-preserved c = search_goes_on _ _ _ _ _ c.loop-i.invariant c.loop-i-test.true _ c.record.ensures c.reaches.ensures c.if-reaches.false
-
 pub returns : goal.returns
-returns c = let e : c.loop-i.i ≡ length c.args.sources.now = omega arith in
-    sym e ∙ search_ends _ _ _ _ _ c.loop-i.invariant c.loop-i-test.false
+unfolding count_before
+returns c =
+    let p = not_before c.args.texts.frozen.now c.args.texts.log.now c.args.rec.now in
+    let h = IsFirst-from_position _ _ c.position.result (λ (s : ℕ). p s ≡ true) (λ (s : ℕ). p s ≡ false) c.position.ensures.ran (YieldsList-from_slice c.args.sources.now (cc)) (λ x q k. search (rules, tests)) (λ x q k. search (rules, tests)) in
+    c.unwrap_or.ensures ∙ first_found p c.args.sources.now c.position.result h

@@ -7,11 +7,11 @@ use Rattle.applying.proofs.state.rises.Goals as goal
 pub loop-i-init : goal.loop-i-init
 loop-i-init c = λ j k. absurd (omega arith)
 
-pub returns-then-reaches : goal.returns-then-reaches
-returns-then-reaches c = λ t. absurd (false≢true t)
+pub returns-then-not_before : goal.returns-then-not_before
+returns-then-not_before c = λ t. absurd (false≢true t)
 
 pub loop-i-preserved : goal.loop-i-preserved
-loop-i-preserved c = tested_next _ _ _ _ c.loop-i.auto.i c.loop-i.invariant c.record.ensures c.record-in-loop-i.ensures c.reaches.ensures c.if-reaches.false
+loop-i-preserved c = tested_next _ _ _ _ c.loop-i.auto.i c.loop-i.invariant c.record.ensures c.not_before.ensures c.if-not_before.false
 
 pub returns : goal.returns
 returns c = λ _. tested_all _ _ _ _ c.loop-i-test.false c.loop-i.invariant

@@ -1,8 +1,0 @@
--- By the order of the places. Assumes nothing.
-use Rattle.applying.proofs.StateLaws.{is_late}
-use Rattle.applying.specs.State.{not_less}
-use mathlib.Core.Path.{ap, ◌∙◌}
-use Rattle.applying.proofs.state.reaches.Goals as goal
-
-pub returns : goal.returns
-returns c = c.is_ge.ensures ∙ is_late _ ∙ ap not_less c.place_order.ensures
