@@ -16,7 +16,8 @@ use borrow.Author.Tests.{eqb-true, eq-eqb, ltb-true, ltb-false}
 use Rattle.slices.proofs.Cases.{split, and_left, and_right, both}
 use Rattle.slices.proofs.PartLaws.{member_iff}
 use Rattle.refusals.specs.declared.Refusal.{Refusal}
-use Rattle.corrections.specs.Reading.{Entry, Reading, refused, said, read_log}
+use Rattle.corrections.specs.declared.Entry.{Entry}
+use Rattle.corrections.specs.Reading.{Reading, refused, said, read_log}
 use Rattle.corrections.proofs.Within.{legal_read}
 use Rattle.routes.specs.Places.{Every}
 use Rattle.routes.specs.Sources.{records}

@@ -19,15 +19,16 @@ use Rattle.routes.specs.Sources.{records, in_use, sources_of}
 use Rattle.routes.specs.declared.Sources.{Sources}
 use Rattle.routes.proofs.SourceLaws.{own_count}
 use Rattle.history.specs.Sets.{Numbers}
-use Rattle.corrections.specs.Reading.{Entry, Reading, refused, said, read_log, index_of}
+use Rattle.corrections.specs.declared.Entry.{Entry}
+use Rattle.corrections.specs.Reading.{Reading, refused, said, read_log, index_of, index_with}
 use Rattle.corrections.specs.declared.Index.{Index}
 use Rattle.corrections.proofs.FrontLaws.{not_said}
 use Rattle.applying.specs.Apply.{Within, entries_from}
 use Rattle.applying.specs.Bounds.{ran_over, ran_over_by, ran_as}
 use Rattle.applying.specs.Correct.{Outcome, stopped, reached, corrected, fault_as}
 use Rattle.applying.specs.Run.{by_correction, onward, ran, ran_by, marked}
-use Rattle.selection.specs.Reliance.{reliances, Taken}
-use Rattle.selection.specs.Pick.{Reads, Opens, length_stage, if_accepted, opening_of, opened, wanted_stage, everything, members_from, members_as, refused_by, picked, judged_first, ran_first, outcome_verdict, carried, taken_of, pick_by, outcome_of, pick_from, pick_of, picked_as}
+use Rattle.selection.specs.Reliance.{owners, reliances, Taken}
+use Rattle.selection.specs.Pick.{Reads, Opens, length_stage, if_accepted, opened, wanted_stage, everything, members_from, members_as, refused_by, picked, judged_first, ran_first, outcome_verdict, carried, taken_of, pick_by, outcome_of, pick_from, pick_of, picked_as}
 use Rattle.selection.specs.Failing.{line_at, failure_with, failure_by, failure_as, judged_then, failure_of, settled, settled_from, settled_of}
 use Rattle.selection.specs.declared.choosing.Chosen.{Chosen}
 use Rattle.selection.specs.Reasons.{Chooses, reasons_by, unless_stopped, reasons_from, reasons_of, reasons_with, reasons_as}
@@ -44,11 +45,11 @@ use Rattle.selection.proofs.TakenLaws.{taken_closure}
 
 module _ (log : List ℕ) (index : Index) (r : Reads log index) where
   count_of : index.count ≡ length r.lines
-  unfolding index_of
+  unfolding index_with
   count_of = ap (λ (i : Index). i.count) r.holds
 
   pub corrections_of_lem : index.corrections ≡ r.corrections
-  unfolding index_of
+  unfolding index_with
   corrections_of_lem = ap (λ (i : Index). i.corrections) r.holds
 
   -- its lines are those that were read
@@ -68,11 +69,12 @@ module _ (log : List ℕ) (index : Index) (r : Reads log index) where
 
 -- ---- what was opened
 
-module _ (f l : List ℕ) (index : Index) (e : opening_of (opened f l) ≡ Ok index) where
-  was_said : (n : ℕ) × (es : List Entry) × (opened f l ≡ said n es) × (index ≡ index_of (said n es))
+module _ (f l : List ℕ) (index : Index) (e : index_of (opened f l) ≡ Ok index) where
+  was_said : (n : ℕ) × (es : List Entry) × (opened f l ≡ said n es) × (index ≡ index_with n es)
+  unfolding index_of
   was_said = by (opened f l) refl e
     where
-      by : (o : Reading) → opened f l ≡ o → opening_of o ≡ Ok index → (n : ℕ) × (es : List Entry) × (opened f l ≡ said n es) × (index ≡ index_of (said n es))
+      by : (o : Reading) → opened f l ≡ o → index_of o ≡ Ok index → (n : ℕ) × (es : List Entry) × (opened f l ≡ said n es) × (index ≡ index_with n es)
       by (refused r) p h = let z : ◌≡◌ {A = ℕ} 0 1 = cc in absurd (omega arith)
       by (said n es) p h = (n, es, p, cc)
 
@@ -180,7 +182,7 @@ ran_verdict (reached xs) = refl
 
 -- ---- the whole log
 
-module _ (f l : List ℕ) (index : Index) (e : opening_of (opened f l) ≡ Ok index) {s : Sources} (t : s ≡ sources_of f) (x : Ran)
+module _ (f l : List ℕ) (index : Index) (e : index_of (opened f l) ≡ Ok index) {s : Sources} (t : s ≡ sources_of f) (x : Ran)
     (g : x ≡ ran_as (ran_over f l (marked (replicate 201 1)) index s)) where
   ran_whole : x ≡ ran_as (outcome_of f l (opened f l))
   unfolding carried
@@ -324,15 +326,15 @@ module _ (f l ws : List ℕ) (index : Index) (q : opened f l ≡ said index.corr
 
 -- what is marked is taken
 pub marks_taken : (f l ws marks : List ℕ) (index : Index) (r : Reads l index) {relied : List ℕ} → wanted_stage index.corrections 1 ws ≡ Accepted
-    → relied ≡ reliances f l index 0 index.count ++ replicate (444 - index.count) 0 → Taken index.correction relied ws marks (length ws)
+    → relied ≡ reliances f l index 0 index.count ++ replicate (444 - index.count) 0 → Taken (owners index.entries) relied ws marks (length ws)
     → (i : ℕ) → i < index.corrections → marked marks (1 + i) ≡ taken_of f l index.corrections (entries_from index 0 index.count) ws (1 + i)
 unfolding taken_of
 marks_taken f l ws marks index r v e t i h =
     let b = read_by_correction l r.beside r.corrections r.lines r.read in
     let u : wanted_stage r.corrections 1 ws ≡ Accepted = subst (λ (n : ℕ). wanted_stage n 1 ws ≡ Accepted) (corrections_of_lem l index r) v in
     let c = taken_closure f l r.corrections r.lines b ws marks u
-    (subst (λ (x : Index). Taken x.correction (reliances f l x 0 x.count ++ replicate (444 - x.count) 0) ws marks (length ws)) r.holds
-    (subst (λ (x : List ℕ). Taken index.correction x ws marks (length ws)) e t)) i in
+    (subst (λ (x : Index). Taken (owners x.entries) (reliances f l x 0 x.count ++ replicate (444 - x.count) 0) ws marks (length ws)) r.holds
+    (subst (λ (x : List ℕ). Taken (owners index.entries) x ws marks (length ws)) e t)) i in
     let s : suc i ≡ 1 + i = omega arith in
     subst (λ (k : ℕ). marked marks k ≡ taken_of f l index.corrections (entries_from index 0 index.count) ws k) s
     (c ∙ ap₂ (λ (n : ℕ) (es : List Entry). taken_of f l n es ws (suc i)) (sym (corrections_of_lem l index r)) (sym (lines_of l index r)))

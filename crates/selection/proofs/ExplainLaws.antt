@@ -18,12 +18,11 @@ use Rattle.slices.specs.Part.{member, padded}
 use Rattle.slices.proofs.Cases.{or_left, or_right}
 use Rattle.slices.proofs.PartLaws.{one_less, zero_at}
 use Rattle.slices.proofs.WriteLaws.{stored_front}
-use Rattle.corrections.specs.Reading.{Entry}
+use Rattle.corrections.specs.declared.Entry.{Entry}
 use Rattle.corrections.specs.declared.Index.{Index}
 use Rattle.routes.specs.Places.{Every}
-use Rattle.routes.specs.Sources.{log_source}
 use Rattle.history.specs.Sets.{Numbers, numbered, last_on}
-use Rattle.applying.specs.Apply.{source_of}
+use Rattle.applying.specs.Apply.{entry_at, source_of}
 use Rattle.applying.specs.Procedures.{procedures}
 use Rattle.applying.specs.Run.{marked}
 use Rattle.selection.specs.Pick.{wants, members_from, members_as, taken_of}
@@ -32,7 +31,7 @@ use Rattle.selection.specs.declared.Explained.{Explained}
 use Rattle.selection.specs.declared.carry.Members.{Members}
 use Rattle.selection.specs.declared.explaining.Naming.{Naming}
 use Rattle.selection.proofs.GroupLaws.{ByCorrection}
-use Rattle.selection.proofs.IndexLaws.{no_line, entry_at_lem, correction_at}
+use Rattle.selection.proofs.IndexLaws.{no_line, owner_at, entry_at_lem, correction_at}
 use Rattle.selection.proofs.LastLaws.{route_in}
 use Rattle.selection.proofs.MemberLaws.{Member, members_are}
 use Rattle.selection.proofs.TakenLaws.{index, relied, L, count_lines, length_log, line}
@@ -88,13 +87,13 @@ module _ (index : Index) (relied marks : List ℕ) (p : ℕ) where
     unfolding named_from
     named_end h = let z : count - k ≡ 0 = omega arith in sym (w ∙ rw z)
 
-    module _ (h : k < count) {b : Bool} (m : b ≡ marked marks (get_or index.correction k 0)) where
-      turn : whole ≡ cond (b && eqb (get_or relied k 0) p) (Some (record { relying = get_or index.correction k 0; source = log_source (get_or index.at k 0) })) (named_from index relied marks p (k + 1) (count - (k + 1)))
+    module _ (h : k < count) {b : Bool} (m : b ≡ marked marks (entry_at index k).correction) where
+      turn : whole ≡ cond (b && eqb (get_or relied k 0) p) (Some (record { relying = (entry_at index k).correction; source = source_of (entry_at index k) })) (named_from index relied marks p (k + 1) (count - (k + 1)))
       unfolding named_from
       turn = w ∙ rw (one_less count k h, m)
 
-      pub named_found : (b && eqb (get_or relied k 0) p) ≡ true → {s : ℕ} → s ≡ log_source (get_or index.at k 0) → Some (record { relying = get_or index.correction k 0; source = s }) ≡ whole
-      named_found t e = ap (λ (x : ℕ). Some (record { relying = get_or index.correction k 0; source = x })) e ∙ sym (turn ∙ rw t)
+      pub named_found : (b && eqb (get_or relied k 0) p) ≡ true → {s : ℕ} → s ≡ source_of (entry_at index k) → Some (record { relying = (entry_at index k).correction; source = s }) ≡ whole
+      named_found t e = ap (λ (x : ℕ). Some (record { relying = (entry_at index k).correction; source = x })) e ∙ sym (turn ∙ rw t)
 
       pub named_next : (b && eqb (get_or relied k 0) p) ≡ false → whole ≡ named_from index relied marks p (k + 1) (count - (k + 1))
       named_next t = turn ∙ rw t
@@ -178,14 +177,14 @@ module _ (f l : List ℕ) (n : ℕ) (es : List Entry) (b : ByCorrection n es) (w
 
   -- a line is tested by the marks and by what it names as the definition tests it
   same_test : (p k : ℕ) → k < length es
-      → (marked marks (get_or (index f l n es b).correction k 0) && eqb (get_or (relied f l n es b) k 0) p) ≡ relies_on f l T (L f l n es b) p (get_or es k no_line)
+      → (marked marks (entry_at (index f l n es b) k).correction && eqb (get_or (relied f l n es b) k 0) p) ≡ relies_on f l T (L f l n es b) p (get_or es k no_line)
   same_test p k h =
       let ln = line f l n es b k h in
       let c : (get_or es k no_line).correction ≡ suc ln.group = sym (correction_at n es k) ∙ ln.owner in
       let g : (get_or es k no_line).correction - 1 ≡ ln.group = omega (arith, c) in
       let s : 1 + ln.group ≡ suc ln.group = omega arith in
-      let m : marked marks (get_or (index f l n es b).correction k 0) ≡ T (get_or es k no_line).correction =
-      ap (marked marks) ln.owner ∙ subst (λ (j : ℕ). marked marks j ≡ T j) s (t ln.group (omega (arith, ln.among, length_log f l n es b))) ∙ ap T (sym c) in
+      let m : marked marks (entry_at (index f l n es b) k).correction ≡ T (get_or es k no_line).correction =
+      ap (marked marks) (sym (owner_at _ k) ∙ ln.owner) ∙ subst (λ (j : ℕ). marked marks j ≡ T j) s (t ln.group (omega (arith, ln.among, length_log f l n es b))) ∙ ap T (sym c) in
       let q : get_or (relied f l n es b) k 0 ≡ last_on procedures (numbered (L f l n es b)) (route_in f l (get_or es k no_line)) ((get_or es k no_line).correction - 1) =
       ln.last ∙ ap (last_on procedures (numbered (L f l n es b)) (route_in f l (get_or es k no_line))) (sym g) in
       ap₂ (λ (x : Bool) (y : ℕ). x && eqb y p) m q
@@ -198,7 +197,7 @@ module _ (f l : List ℕ) (n : ℕ) (es : List Entry) (b : ByCorrection n es) (w
       let below : k < length es = omega arith in
       let s : suc k ≡ k + 1 = omega arith in
       let d : drop k es ≡ get_or es k no_line ∷ drop (k + 1) es = drop-cons es k no_line below ∙ ap (λ (j : ℕ). get_or es k no_line ∷ drop j es) s in
-      let here : Some (record { relying = get_or (index f l n es b).correction k 0; source = log_source (get_or (index f l n es b).at k 0) }) ≡ naming_as (some (get_or es k no_line)) =
+      let here : Some (record { relying = (entry_at (index f l n es b) k).correction; source = source_of (entry_at (index f l n es b) k) }) ≡ naming_as (some (get_or es k no_line)) =
       ap (λ (e : Entry). Some (record { relying = e.correction; source = source_of e })) (entry_at_lem n es k) in
       ap₂ (λ (x : Bool) (y : std.Option Naming). cond x y (named_from (index f l n es b) (relied f l n es b) marks p (k + 1) m)) (same_test p k below) here
       ∙ ap (cond (relies_on f l T (L f l n es b) p (get_or es k no_line)) (naming_as (some (get_or es k no_line)))) (named_first p (k + 1) m (omega arith))

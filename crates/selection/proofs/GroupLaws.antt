@@ -10,7 +10,8 @@ use lib.Seq.{take-suc, take-append-le, take-append-add, get_or-append-add, take_
 use borrow.Author.Tests.{eq-eqb, ne_eqb, ltb-true, ltb-false}
 use Rattle.slices.proofs.Cases.{split}
 use Rattle.corrections.specs.Lines.{heading}
-use Rattle.corrections.specs.Reading.{Entry, said, read_log}
+use Rattle.corrections.specs.declared.Entry.{Entry}
+use Rattle.corrections.specs.Reading.{said, read_log}
 use Rattle.corrections.specs.Text.{Change}
 use Rattle.corrections.proofs.TextLaws.{entries_from, entries_in, groups}
 use Rattle.corrections.proofs.Within.{legal_read}

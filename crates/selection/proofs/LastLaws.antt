@@ -15,7 +15,7 @@ use Rattle.slices.proofs.OrderLaws.{equal_iff}
 use Rattle.routes.specs.Places.{key_of}
 use Rattle.history.specs.Apply.{take_out, put_in, route_of_op, Touches, touches?}
 use Rattle.history.specs.Sets.{numbered, last_on}
-use Rattle.corrections.specs.Reading.{Entry}
+use Rattle.corrections.specs.declared.Entry.{Entry}
 use Rattle.applying.specs.Apply.{record_of_line}
 use Rattle.applying.specs.Procedures.{procedures, operation, operations}
 use Rattle.selection.specs.Reliance.{last_before}

@@ -7,7 +7,8 @@ use native.Mathlib.Omega.{arith}
 use lib.ListN.{length, take, length-append}
 use lib.Seq.{take_at, drop-append-add}
 use borrow.Author.Tests.{le-leb}
-use Rattle.corrections.specs.Reading.{Entry, entry}
+use Rattle.corrections.specs.declared.Entry.{Entry}
+use Rattle.corrections.specs.Reading.{entry}
 use Rattle.corrections.specs.Text.{Change, takes_out, puts_in, letter_of, change_text, Sound, EverySound, AllSound, puts, all_puts, LegalLog}
 use Rattle.corrections.proofs.TextLaws.{entries_in}
 use Rattle.corrections.proofs.ReadBack.{corrections_made}

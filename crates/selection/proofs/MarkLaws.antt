@@ -195,17 +195,17 @@ module _ (of : List ℕ) where
 
   module _ (spans : List Span) (k : ℕ) (s : Spanned spans k) where
     -- a line of a correction that has no mark
-    pub spanned_skip : 201 ≤ get_or of k 0 → Spanned spans (k + 1)
-    spanned_skip h = record {
+    skipped : 201 ≤ get_or of k 0 → Spanned spans (k + 1)
+    skipped h = record {
       long = s.long;
       begun = λ c. omega (arith, s.begun c);
       row = below_more _ k s.row (λ l. absurd (omega arith));
     }
 
-    pub spanned_next : (first : ℕ) → get_or of k 0 < 201 → first ≤ k
+    widened : (first : ℕ) → get_or of k 0 < 201 → first ≤ k
         → (0 < (get_or spans (get_or of k 0) no_span).end → first ≡ (get_or spans (get_or of k 0) no_span).first)
         → Spanned (set spans (get_or of k 0) (record { first = first; end = k + 1 })) (k + 1)
-    spanned_next first h few same = record {
+    widened first h few same = record {
       long = length-set spans (get_or of k 0) new ∙ s.long;
       begun = λ c. by c (eqb c (get_or of k 0)) refl;
       row = below_more _ k (λ j l m. old j l m (eqb (get_or of j 0) (get_or of k 0)) refl) (λ l. rw now (omega arith, omega arith));
@@ -229,8 +229,29 @@ module _ (of : List ℕ) where
             rw (q, now) (omega (arith, r.0, same (omega (arith, r.1))), omega arith)
         old j l m false e = rw (get_or-set_other spans (get_or of k 0) (get_or of j 0) new no_span (eqb-false (get_or of j 0) (get_or of k 0) e)) (s.row j l m)
 
-  pub spanned_end : (spans : List Span) → Spanned spans (length of) → Spans of spans
-  spanned_end spans s = s.row
+    -- as the loop has it, with the correction c of the line
+    module _ {c : ℕ} (o : c ≡ get_or of k 0) {next : List Span} where
+      pub spanned_skip : 201 ≤ c → next ≡ spans → Spanned next (k + 1)
+      spanned_skip h e = subst (λ (x : List Span). Spanned x (k + 1)) (sym e) (skipped (omega arith))
+
+      module _ {first : ℕ} (h : c < 201) (e : next ≡ set spans c (record { first = first; end = k + 1 })) where
+        with_owner : first ≤ k → (0 < (get_or spans (get_or of k 0) no_span).end → first ≡ (get_or spans (get_or of k 0) no_span).first) → Spanned next (k + 1)
+        with_owner few same =
+            subst (λ (x : List Span). Spanned x (k + 1)) (sym (e ∙ ap (λ (j : ℕ). set spans j (record { first = first; end = k + 1 })) o)) (widened first (omega arith) few same)
+
+        -- it is the first line of its correction, or another
+        pub spanned_first : (get_or spans c no_span).end ≡ 0 → first ≡ k → Spanned next (k + 1)
+        spanned_first z f =
+            let none : (get_or spans (get_or of k 0) no_span).end ≡ 0 = ap (λ (j : ℕ). (get_or spans j no_span).end) (sym o) ∙ z in
+            with_owner (omega arith) (λ l. absurd (omega arith))
+
+        pub spanned_other : first ≡ (get_or spans c no_span).first → Spanned next (k + 1)
+        spanned_other f =
+            let as_before : first ≡ (get_or spans (get_or of k 0) no_span).first = f ∙ ap (λ (j : ℕ). (get_or spans j no_span).first) o in
+            with_owner (omega (arith, s.begun (get_or of k 0))) (λ l. as_before)
+
+  pub spanned_end : (spans : List Span) (k : ℕ) → Spanned spans k → length of ≤ k → Spans of spans
+  spanned_end spans k s h j l = s.row j (omega arith)
 
 -- ---- the wanted corrections, one after the other
 

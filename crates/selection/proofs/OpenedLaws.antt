@@ -13,7 +13,8 @@ use lib.ListN.{length}
 use lib.Seq.{take-take}
 use borrow.Author.Tests.{le-ltb}
 use Rattle.refusals.specs.declared.Refusal.{Refusal}
-use Rattle.corrections.specs.Reading.{Entry, Reading, refused, said, read_log}
+use Rattle.corrections.specs.declared.Entry.{Entry}
+use Rattle.corrections.specs.Reading.{Reading, refused, said, read_log}
 use Rattle.corrections.specs.Text.{LegalLog}
 use Rattle.corrections.proofs.FrontLaws.{not_said}
 use Rattle.corrections.proofs.Spelling.{said_legal}

@@ -8,20 +8,20 @@ use Prim.Native.Nat.{ℕ, suc, ◌+◌, ◌≤◌, ◌<◌}
 use native.Mathlib.Omega.{arith}
 use lib.Dec.{eqb, ltb}
 use lib.ListN.{length}
-use Rattle.std.specs.Prelude.{Some, None, Ok}
+use Rattle.std.specs.Prelude.{Some, None, Ok, Err}
 use Rattle.std.specs.List.{position_or_len, position}
 use borrow.Author.Tests.{ne_eqb, eqb-false, lt-ltb, le-ltb, ltb-true, ltb-false}
 use Rattle.slices.proofs.Cases.{split}
 use Rattle.refusals.specs.Table.{log_too_long, not_in_log, Verdict, Accepted, Refused}
 use Rattle.refusals.specs.declared.Refusal.{Refusal}
-use Rattle.refusals.proofs.VerdictLaws.{never, same_refusal}
+use Rattle.refusals.proofs.VerdictLaws.{never}
 use Rattle.corrections.specs.Reading.{Reading, refused, said, read_log, index_of}
 use Rattle.corrections.specs.declared.Index.{Index}
 use Rattle.routes.specs.Files.{file_verdict}
 use Rattle.routes.specs.InTurn.{in_turn}
 use Rattle.routes.specs.Places.{Every}
 use Rattle.routes.specs.Sources.{records}
-use Rattle.selection.specs.Pick.{length_stage, opening_of, opened, wanted_stage}
+use Rattle.selection.specs.Pick.{length_stage, opened, wanted_stage}
 
 -- ---- the log's length, the frozen file, the log's lines
 
@@ -35,26 +35,21 @@ module _ (f l : List ℕ) where
     unfolding opened length_stage in_turn
     opening_file t = rw (le-ltb 60000 (length l) h, sym e ∙ t)
 
-    module _ {n : ℕ} {i : Index} (t : v ≡ Accepted) (c : n ≡ length (records f)) (q : i ≡ index_of (read_log l n)) where
+    module _ {n : ℕ} (t : v ≡ Accepted) (c : n ≡ length (records f)) where
       was_read : opened f l ≡ read_log l n
       unfolding opened length_stage in_turn
       was_read = rw (le-ltb 60000 (length l) h, sym e ∙ t, c)
 
-      pub opening_log : {r : Refusal} → i.verdict ≡ Refused r → opened f l ≡ refused r
+      pub opening_log : {r : Refusal} → index_of (read_log l n) ≡ Err r → opened f l ≡ refused r
       unfolding index_of
-      opening_log {r} w = was_read ∙ by (read_log l n) (sym (ap (λ (x : Index). x.verdict) q) ∙ w)
+      opening_log {r} w = was_read ∙ by (read_log l n) w
         where
-          by : (o : Reading) → (index_of o).verdict ≡ Refused r → o ≡ refused r
-          by (refused s) x = ap refused (same_refusal x)
-          by (said m es) x = absurd (never (sym x))
+          by : (o : Reading) → index_of o ≡ Err r → o ≡ refused r
+          by (refused s) x = let same : s ≡ r = cc in ap refused same
+          by (said m es) x = let z : ◌≡◌ {A = ℕ} 0 1 = cc in absurd (omega arith)
 
-      pub opening_read : i.verdict ≡ Accepted → opening_of (opened f l) ≡ Ok i
-      unfolding index_of
-      opening_read w = ap opening_of was_read ∙ by (read_log l n) q (sym (ap (λ (x : Index). x.verdict) q) ∙ w)
-        where
-          by : (o : Reading) → i ≡ index_of o → (index_of o).verdict ≡ Accepted → opening_of o ≡ Ok i
-          by (refused s) p x = absurd (never x)
-          by (said m es) p x = ap Ok (sym p)
+      pub opening_read : {i : Index} → index_of (read_log l n) ≡ Ok i → index_of (opened f l) ≡ Ok i
+      opening_read w = ap index_of was_read ∙ w
 
 -- ---- the wanted numbers
 

@@ -15,7 +15,8 @@ use Rattle.std.specs.declared.cmp.Ordering.TheVariants.{Less}
 use Rattle.slices.proofs.Cases.{split}
 use Rattle.slices.proofs.OrderLaws.{irreflexive}
 use Rattle.slices.proofs.PartLaws.{get_or_any}
-use Rattle.corrections.specs.Reading.{Entry, said, read_log}
+use Rattle.corrections.specs.declared.Entry.{Entry}
+use Rattle.corrections.specs.Reading.{said, read_log}
 use Rattle.corrections.specs.Text.{Change, takes_out, puts_in}
 use Rattle.corrections.proofs.TextLaws.{entries_from, groups}
 use Rattle.corrections.proofs.Within.{legal_read}

@@ -9,7 +9,8 @@ use Prim.Native.Nat.{ℕ}
 use native.Mathlib.Omega.{arith}
 use lib.ListN.{length}
 use Rattle.refusals.proofs.VerdictLaws.{never}
-use Rattle.corrections.specs.Reading.{Entry, Reading, refused, said}
+use Rattle.corrections.specs.declared.Entry.{Entry}
+use Rattle.corrections.specs.Reading.{Reading, refused, said}
 use Rattle.corrections.specs.Text.{LegalLog}
 use Rattle.corrections.proofs.TextLaws.{entries_in}
 use Rattle.routes.specs.Files.{file_verdict}

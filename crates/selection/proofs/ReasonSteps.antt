@@ -6,7 +6,8 @@ use mathlib.Core.List.{List, ◌++◌}
 use Prim.Native.Nat.{ℕ, ◌+◌, ◌-◌, ◌≤◌, ◌<◌}
 use native.Mathlib.Omega.{arith}
 use lib.ListN.{replicate}
-use Rattle.corrections.specs.Reading.{Entry, said, index_of}
+use Rattle.corrections.specs.declared.Entry.{Entry}
+use Rattle.corrections.specs.Reading.{index_with}
 use Rattle.corrections.specs.declared.Index.{Index}
 use Rattle.history.specs.Sets.{Numbers}
 use Rattle.applying.specs.Apply.{entries_from}
@@ -44,8 +45,8 @@ module _ (f l ws : List ℕ) (index : Index) where
         s.takes i (omega (arith, corrections_of_lem l index r))
         ∙ ap₂ (λ (m : ℕ) (ls : List Entry). taken_of f l m ls ws (1 + i)) (corrections_of_lem l index r) (lines_of l index r)
 
-    relied_read : c.relied ≡ reliances f l (index_of (said r.corrections r.lines)) 0 (index_of (said r.corrections r.lines)).count
-        ++ replicate (444 - (index_of (said r.corrections r.lines)).count) 0
+    relied_read : c.relied ≡ reliances f l (index_with r.corrections r.lines) 0 (index_with r.corrections r.lines).count
+        ++ replicate (444 - (index_with r.corrections r.lines).count) 0
     relied_read = s.relies ∙ ap (λ (i : Index). reliances f l i 0 i.count ++ replicate (444 - i.count) 0) r.holds
 
     pub reasons_found : (asked : List ℕ) → Asked ws asked → {m : Members} → m ≡ members_as (members_from (marked c.marks) 1 n) → {x : Explained}

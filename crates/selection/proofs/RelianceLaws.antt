@@ -15,7 +15,6 @@ use Rattle.slices.specs.Order.{equal}
 use Rattle.slices.proofs.PartLaws.{one_less}
 use Rattle.slices.proofs.WriteLaws.{stored_front}
 use Rattle.routes.specs.Places.{key_of}
-use Rattle.routes.specs.Sources.{log_source, record_at}
 use Rattle.corrections.specs.declared.Index.{Index}
 use Rattle.applying.specs.Apply.{entry_at, entries_from, record_of_line}
 use Rattle.selection.specs.Reliance.{last_before, relied_by, reliances}
@@ -25,22 +24,22 @@ use Rattle.selection.specs.Reliance.{last_before, relied_by, reliances}
 -- the last of some lines either counts, or it may be left out
 last_line : (f l : List ℕ) (n : ℕ) (key : List ℕ) (index : Index) (found i j : ℕ)
     → last_before f l n key found (entries_from index i (suc j))
-    ≡ cond (ltb (get_or index.correction (i + j) 0) n && equal key (key_of (record_of_line f l (entry_at index (i + j))))) (get_or index.correction (i + j) 0)
+    ≡ cond (ltb (entry_at index (i + j)).correction n && equal key (key_of (record_of_line f l (entry_at index (i + j))))) (entry_at index (i + j)).correction
     (last_before f l n key found (entries_from index i j))
 unfolding last_before entries_from
 last_line f l n key index found i zero = let e : i + 0 ≡ i = omega arith in rw e
 last_line f l n key index found i (suc j) = let e : i + suc j ≡ i + 1 + j = omega arith in
     rw e
-    (last_line f l n key index (cond (ltb (get_or index.correction i 0) n && equal key (key_of (record_of_line f l (entry_at index i)))) (get_or index.correction i 0) found) (i + 1) j)
+    (last_line f l n key index (cond (ltb (entry_at index i).correction n && equal key (key_of (record_of_line f l (entry_at index i)))) (entry_at index i).correction found) (i + 1) j)
 
 module _ (f l : List ℕ) (index : Index) (k : ℕ) where
   -- the record of a line
   abbrev own : ℕ → List ℕ
-  own j = record_at f l (log_source (get_or index.at j 0))
+  own j = record_of_line f l (entry_at index j)
 
   -- what line k relies on stands among the first j lines
   unfoldable pub Among : ℕ → Type 0
-  Among j = relied_by f l index k ≡ last_before f l (get_or index.correction k 0) (key_of (own k)) 0 (entries_from index 0 j)
+  Among j = relied_by f l index k ≡ last_before f l (entry_at index k).correction (key_of (own k)) 0 (entries_from index 0 j)
 
   pub relied_start : Among k
   unfolding Among relied_by
@@ -53,26 +52,26 @@ module _ (f l : List ℕ) (index : Index) (k : ℕ) where
   -- the last of the lines that are left
   module _ (j : ℕ) (a : Among j) (some : 0 < j) where
     abbrev earlier : ℕ
-    earlier = get_or index.correction (j - 1) 0
+    earlier = (entry_at index (j - 1)).correction
 
-    by_last : (b : Bool) → (ltb earlier (get_or index.correction k 0) && equal (key_of (own k)) (key_of (own (j - 1)))) ≡ b
-        → relied_by f l index k ≡ cond b earlier (last_before f l (get_or index.correction k 0) (key_of (own k)) 0 (entries_from index 0 (j - 1)))
+    by_last : (b : Bool) → (ltb earlier (entry_at index k).correction && equal (key_of (own k)) (key_of (own (j - 1)))) ≡ b
+        → relied_by f l index k ≡ cond b earlier (last_before f l (entry_at index k).correction (key_of (own k)) 0 (entries_from index 0 (j - 1)))
     unfolding Among
     by_last b t =
         let e : j ≡ suc (j - 1) = omega arith in
         let z : 0 + (j - 1) ≡ j - 1 = omega arith in
-        a ∙ ap (λ (i : ℕ). last_before f l (get_or index.correction k 0) (key_of (own k)) 0 (entries_from index 0 i)) e
-        ∙ last_line f l (get_or index.correction k 0) (key_of (own k)) index 0 0 (j - 1) ∙ rw (z, t)
+        a ∙ ap (λ (i : ℕ). last_before f l (entry_at index k).correction (key_of (own k)) 0 (entries_from index 0 i)) e
+        ∙ last_line f l (entry_at index k).correction (key_of (own k)) index 0 0 (j - 1) ∙ rw (z, t)
 
     -- it is of no earlier correction
-    pub relied_later : get_or index.correction k 0 ≤ earlier → Among (j - 1)
+    pub relied_later : (entry_at index k).correction ≤ earlier → Among (j - 1)
     unfolding Among
-    relied_later h = by_last false (rw (le-ltb earlier (get_or index.correction k 0) h))
+    relied_later h = by_last false (rw (le-ltb earlier (entry_at index k).correction h))
 
     -- it is of an earlier one, and its route is compared
-    module _ {same : Bool} {rec other : List ℕ} (h : earlier < get_or index.correction k 0) (e : same ≡ equal (key_of rec) (key_of other)) (r : rec ≡ own k) (o : other ≡ own (j - 1)) where
-      counts : (ltb earlier (get_or index.correction k 0) && equal (key_of (own k)) (key_of (own (j - 1)))) ≡ same
-      counts = rw (lt-ltb earlier (get_or index.correction k 0) h, e, r, o)
+    module _ {same : Bool} {rec other : List ℕ} (h : earlier < (entry_at index k).correction) (e : same ≡ equal (key_of rec) (key_of other)) (r : rec ≡ own k) (o : other ≡ own (j - 1)) where
+      counts : (ltb earlier (entry_at index k).correction && equal (key_of (own k)) (key_of (own (j - 1)))) ≡ same
+      counts = rw (lt-ltb earlier (entry_at index k).correction h, e, r, o)
 
       pub relied_found : same ≡ true → earlier ≡ relied_by f l index k
       relied_found t = sym (by_last true (counts ∙ t))

@@ -17,12 +17,13 @@ use Rattle.history.specs.Sets.{Numbers, ◌∈◌, ◌⊆◌, numbered, last_on,
 use Rattle.history.specs.Demand.{Fewest}
 use Rattle.history.proofs.Closure.{last_within}
 use Rattle.history.proofs.Statements.{fewest, only_fewest}
-use Rattle.corrections.specs.Reading.{Entry, said, index_of}
+use Rattle.corrections.specs.declared.Entry.{Entry}
+use Rattle.corrections.specs.Reading.{index_with}
 use Rattle.corrections.specs.declared.Index.{Index}
 use Rattle.applying.specs.Apply.{entries_from}
 use Rattle.applying.specs.Run.{by_correction, marked}
 use Rattle.applying.specs.Procedures.{procedures, operation, operations}
-use Rattle.selection.specs.Reliance.{last_before, relied_by, reliances, named_by, Relies, Reach, here, step, In, Taken}
+use Rattle.selection.specs.Reliance.{owners, last_before, relied_by, reliances, named_by, Relies, Reach, here, step, In, Taken}
 use Rattle.selection.specs.Pick.{wanted_stage, wants}
 use Rattle.selection.proofs.OpeningLaws.{wanted_iff}
 use Rattle.selection.proofs.GroupLaws.{flat, Stands, stands, line_of, grouped_at, all_at, ByCorrection}
@@ -60,11 +61,11 @@ at_wanted (w ∷ ws) (suc k) h = or_right (eqb w (get_or ws k 0)) (member (get_o
 
 module _ (f l : List ℕ) (n : ℕ) (es : List Entry) (b : ByCorrection n es) where
   abbrev pub index : Index
-  index = index_of (said n es)
+  index = index_with n es
 
   -- what the marking is given: the correction of each line, and what the line relies on
   abbrev pub of : List ℕ
-  of = index.correction
+  of = owners index.entries
 
   abbrev pub relied : List ℕ
   relied = reliances f l index 0 index.count ++ replicate (444 - index.count) 0
@@ -76,7 +77,7 @@ module _ (f l : List ℕ) (n : ℕ) (es : List Entry) (b : ByCorrection n es) wh
   L = operations f l ess
 
   pub count_lines : index.count ≡ length es
-  unfolding index_of
+  unfolding index_with
   count_lines = refl
 
   pub length_log : length L ≡ n

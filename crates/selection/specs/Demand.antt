@@ -6,7 +6,8 @@ use Rattle.std.specs.Prelude.{◌≡◌, true, false, ◌⊎◌, ℕ, ◌+◌, �
 use mathlib.Core.List.{List, ◌∷◌, ◌++◌, map, Memᴰ}
 use Rattle.std.proofs.Math.Option.{none, some}
 use Rattle.refusals.specs.declared.Refusal.{Refusal}
-use Rattle.corrections.specs.Reading.{Entry, refused, said, read_log}
+use Rattle.corrections.specs.declared.Entry.{Entry}
+use Rattle.corrections.specs.Reading.{refused, said, read_log}
 use Rattle.corrections.specs.Text.{LegalLog}
 use Rattle.routes.specs.Files.{file_verdict}
 use Rattle.routes.specs.Legal.{lines, Wide}

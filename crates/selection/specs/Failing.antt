@@ -2,7 +2,8 @@
 -- Assumes nothing.
 use Rattle.refusals.specs.Table.{Verdict, Accepted, Refused}
 use Rattle.std.specs.Prelude.{ℕ, zero, suc, cond, List, [], ◌∷◌, eqb, take, Result, Ok, Err}
-use Rattle.corrections.specs.Reading.{Entry, Reading, refused, said}
+use Rattle.corrections.specs.declared.Entry.{Entry}
+use Rattle.corrections.specs.Reading.{Reading, refused, said}
 use Rattle.applying.specs.Correct.{no_more, Outcome, stopped, reached, fault_as}
 use Rattle.refusals.specs.declared.Refusal.{Refusal}
 use Rattle.applying.specs.declared.Fault.{Fault}

@@ -1,12 +1,13 @@
 -- The pick: what is refused and in which order, the corrections taken, and the records of the new file by their sources.
 -- Assumes nothing.
-use Rattle.std.specs.Prelude.{ℕ, zero, suc, ◌+◌, ◌≡◌, true, cond, ◌||◌, List, [], ◌∷◌, ◌++◌, map, eqb, ltb, length, get_or, Result, Ok, Err}
+use Rattle.std.specs.Prelude.{ℕ, zero, suc, ◌+◌, ◌≡◌, true, cond, ◌||◌, List, [], ◌∷◌, ◌++◌, map, eqb, ltb, length, get_or, Ok, Err}
 use Rattle.std.proofs.lemmas.List.Edits.{sets}
 use Rattle.slices.specs.Part.{part, member, padded}
 use Rattle.refusals.specs.Table.{log_too_long, not_in_log, buffer_too_short, Verdict, Accepted, Refused}
 use Rattle.refusals.specs.declared.Refusal.{Refusal}
 use Rattle.history.specs.Sets.{Numbers, closure}
-use Rattle.corrections.specs.Reading.{Entry, Reading, refused, said, read_log, index_of}
+use Rattle.corrections.specs.declared.Entry.{Entry}
+use Rattle.corrections.specs.Reading.{Reading, refused, said, read_log, index_with}
 use Rattle.corrections.specs.declared.Index.{Index}
 use Rattle.routes.specs.Files.{file_verdict}
 use Rattle.routes.specs.InTurn.{in_turn}
@@ -34,18 +35,13 @@ if_accepted (Err r) reading = refused r
 unfoldable pub opened : (frozen log : List ℕ) → Reading
 opened frozen log = if_accepted (in_turn (length_stage log ∷ file_verdict frozen ∷ [])) (read_log log (length (records frozen)))
 
--- the refusal, or the index
-abbrev pub opening_of : Reading → Result Index Refusal
-opening_of (refused r) = Err r
-opening_of (said n es) = Ok (index_of (said n es))
-
 -- an index holds what was read of a log, beside so many frozen records
 pub record Reads (log : List ℕ) (index : Index) : Type 0 where
   pub beside : ℕ
   pub corrections : ℕ
   pub lines : List Entry
   pub read : read_log log beside ≡ said corrections lines
-  pub holds : index ≡ index_of (said corrections lines)
+  pub holds : index ≡ index_with corrections lines
 
 -- 12: "wanted number 0 or past the last correction"; the first of the numbers has an index
 unfoldable pub wanted_stage : (corrections index : ℕ) → List ℕ → Verdict

@@ -7,11 +7,11 @@ use Rattle.std.proofs.Math.Option.{Option, none, some}
 use Rattle.slices.specs.Part.{padded}
 use Rattle.history.specs.Apply.{Correction}
 use Rattle.history.specs.Sets.{Numbers, numbered, last_on}
-use Rattle.corrections.specs.Reading.{Entry, Reading, refused, said}
+use Rattle.corrections.specs.declared.Entry.{Entry}
+use Rattle.corrections.specs.Reading.{Reading, refused, said}
 use Rattle.corrections.specs.declared.Index.{Index}
 use Rattle.routes.specs.Places.{key_of}
-use Rattle.routes.specs.Sources.{log_source}
-use Rattle.applying.specs.Apply.{lines_of, record_of_line, source_of}
+use Rattle.applying.specs.Apply.{entry_at, lines_of, record_of_line, source_of}
 use Rattle.applying.specs.Correct.{Outcome, stopped, reached, fault_as}
 use Rattle.applying.specs.Procedures.{procedures, operations}
 use Rattle.applying.specs.Run.{by_correction, marked}
@@ -109,8 +109,8 @@ Asked ws marks = (i : ℕ) → i < 201 → marked marks i ≡ wants ws i
 unfoldable pub named_from : Index → (relied marks : List ℕ) (p k n : ℕ) → std.Option Naming
 named_from index relied marks p k zero = None
 named_from index relied marks p k (suc n) =
-    cond (marked marks (get_or index.correction k 0) && eqb (get_or relied k 0) p)
-    (Some (record { relying = get_or index.correction k 0; source = log_source (get_or index.at k 0) }))
+    cond (marked marks (entry_at index k).correction && eqb (get_or relied k 0) p)
+    (Some (record { relying = (entry_at index k).correction; source = source_of (entry_at index k) }))
     (named_from index relied marks p (k + 1) n)
 
 -- none for a number that is asked for

@@ -1,10 +1,10 @@
 -- Which corrections another one relies on, as the code finds them: for each line of the index the last earlier correction on its route;
 -- then, from a wanted correction, those that its lines name, and so on.
 -- Assumes nothing.
-use Rattle.std.specs.Prelude.{ℕ, zero, suc, ◌+◌, ◌≤◌, ◌<◌, ◌≡◌, cond, ◌&&◌, List, [], ◌∷◌, ◌⊎◌, eqb, ltb, length, get_or}
+use Rattle.std.specs.Prelude.{ℕ, zero, suc, ◌+◌, ◌≤◌, ◌<◌, ◌≡◌, cond, ◌&&◌, List, [], ◌∷◌, ◌⊎◌, map, eqb, ltb, length, get_or}
 use Rattle.slices.specs.Order.{equal}
 use Rattle.routes.specs.Places.{key_of}
-use Rattle.corrections.specs.Reading.{Entry}
+use Rattle.corrections.specs.declared.Entry.{Entry}
 use Rattle.corrections.specs.declared.Index.{Index}
 use Rattle.selection.specs.declared.relied.Span.{Span}
 use Rattle.applying.specs.Apply.{entry_at, entries_from, record_of_line}
@@ -28,6 +28,10 @@ module _ (frozen log : List ℕ) where
   reliances index k (suc n) = relied_by index k ∷ reliances index (k + 1) n
 
 -- ---- from a wanted correction to those it relies on
+
+-- the correction of each line
+abbrev pub owners : List Entry → List ℕ
+owners es = map (λ (e : Entry). e.correction) es
 
 -- The correction that line k names, if that is a line of correction c, and it is smaller; else 0. `of` has the correction of each line,
 -- `relied` what it names.

@@ -68,7 +68,7 @@ impl Opened<'_> {
         within(self.index.corrections, wanted)?;
         self.whole()?;
         let relied = self.reliances();
-        let marks = taken(&self.index.correction, &relied, wanted);
+        let marks = taken(&self.index.entries, &relied, wanted);
         Ok(Chosen { relied, marks })
     }
 }

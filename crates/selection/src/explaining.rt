@@ -48,7 +48,7 @@ impl Why<'_> {
     {
         let index = &self.opened.index;
         for k in 0..index.count {
-            let of = index.correction[k];
+            let of = index.entries[k].correction;
             let marked = is_marked(&self.chosen.marks, of as usize);
             if marked & (self.chosen.relied[k] as usize == p) {
                 return Some(Naming {

@@ -1,8 +1,8 @@
 // What is judged before any correction is applied: the log's length, the frozen file, the log's lines, the wanted numbers.
 // Assumes nothing.
 ghost use Rattle.std.specs.Prelude.{◌≡◌, Ok, MatchResult};
-ghost use Rattle.corrections.specs.Reading.{refused};
-ghost use Rattle.selection.specs.Pick.{opened, wanted_stage, opening_of};
+ghost use Rattle.corrections.specs.Reading.{refused, index_of};
+ghost use Rattle.selection.specs.Pick.{opened, wanted_stage};
 
 use corrections::{Index, LONGEST_LOG, index_of};
 use refusals::{Refusal, Verdict};
@@ -13,7 +13,7 @@ use routes::{Texts, sources_of};
 pub(crate) struct Opened<'a> {
     pub texts: Texts<'a>,
     pub index: Index,
-    ghost opens: { opening_of (opened texts.frozen.now texts.log.now) ≡ Ok index },
+    ghost opens: { index_of (opened texts.frozen.now texts.log.now) ≡ Ok index },
 }
 
 impl<'a> Opened<'a> {
@@ -27,8 +27,7 @@ impl<'a> Opened<'a> {
             return Err(Refusal::log_too_long());
         }
         routes::check(texts.frozen)?;
-        let index = index_of(texts.log, sources_of(texts.frozen).count);
-        index.verdict?;
+        let index = index_of(texts.log, sources_of(texts.frozen).count)?;
         Ok(Opened { texts, index })
     }
 }

@@ -3,13 +3,13 @@
 //
 // A line is compared, in 25 bytes, with the lines of earlier corrections before it, back to the first on its route: at most every two lines once.
 // Every correction that is taken is gone into once, and of its own lines each is looked at.
-ghost use Rattle.std.specs.Prelude.{◌≡◌, ◌++◌, ◌-◌, ◌<◌, get_or, length, replicate, MatchOption};
+ghost use Rattle.std.specs.Prelude.{◌≡◌, ◌++◌, ◌-◌, ◌<◌, length, replicate, MatchOption};
 ghost use Rattle.std.specs.Option.{unwrap_or};
-ghost use Rattle.routes.specs.Sources.{log_source};
-ghost use Rattle.selection.specs.Reliance.{relied_by, reliances, named_by, Spans, Marked, Taken};
+ghost use Rattle.applying.specs.Apply.{entry_at, source_of};
+ghost use Rattle.selection.specs.Reliance.{owners, relied_by, reliances, named_by, Spans, Marked, Taken};
 
 use crate::opening::Opened;
-use corrections::{MOST_CHANGES, MOST_CORRECTIONS};
+use corrections::{Entry, MOST_CHANGES, MOST_CORRECTIONS};
 use routes::log_source;
 use slices::same;
 
@@ -23,9 +23,9 @@ impl Opened<'_> {
     // Where the record of line k lies.
     pub(crate) fn source(&self, k: usize) -> u32
         requires { k < 444 }
-        ensures { result ≡ log_source (get_or self.now.index.at k 0) }
+        ensures { result ≡ source_of (entry_at self.now.index k) }
     {
-        log_source(self.index.at[k] as u16)
+        log_source(self.index.entries[k].at as u16)
     }
 
     // The last correction before that of line k which has a line on the same route, if there is one. The lines are gone through backward
@@ -34,13 +34,14 @@ impl Opened<'_> {
         requires { k < 444 }
         ensures { unwrap_or result 0 ≡ relied_by self.now.texts.frozen.now self.now.texts.log.now self.now.index k }
     {
-        let of = &self.index.correction;
+        let own = self.index.entries[k].correction;
         let record = self.texts.record(self.source(k));
         for j in (0..k).rev() {
-            if of[j] < of[k] {
+            let earlier = self.index.entries[j].correction;
+            if earlier < own {
                 let other = self.texts.record(self.source(j));
                 if same(record, 0, other, 0, ROUTE) {
-                    return Some(of[j]);
+                    return Some(earlier);
                 }
             }
         }
@@ -69,12 +70,12 @@ struct Span {
 }
 
 // The spans of all corrections that can be marked.
-fn spans_of(of: &[u32]) -> [Span; MARKS]
-    ensures { Spans of.now result }
+fn spans_of(entries: &[Entry]) -> [Span; MARKS]
+    ensures { Spans (owners entries.now) result }
 {
     let mut spans = [Span { first: 0, end: 0 }; MARKS];
-    for (k, c) in of.iter().enumerate() {
-        let c = *c as usize;
+    for (k, entry) in entries.iter().enumerate() {
+        let c = entry.correction as usize;
         if c < MARKS {
             let first = if spans[c].end == 0 { k } else { spans[c].first };
             spans[c] = Span { first, end: k + 1 };
@@ -83,22 +84,22 @@ fn spans_of(of: &[u32]) -> [Span; MARKS]
     spans
 }
 
-// The lines of a log: of each its correction and what it relies on; and where those of each correction stand.
+// The lines of a log, and what each relies on; and where those of each correction stand.
 #[derive(Clone, Copy)]
 struct Lines<'a> {
-    of: &'a [u32],
+    entries: &'a [Entry],
     relied: &'a [u32],
     spans: &'a [Span; MARKS],
-    ghost spanned: { Spans of.now spans.now },
+    ghost spanned: { Spans (owners entries.now) spans.now },
 }
 
 impl Lines<'_> {
     // The correction that line k names, if that is a line of correction c, and it is smaller.
     fn named(self, c: usize, k: usize) -> Option<usize>
-        ensures { MatchOption result (named_by self.entry.of.now self.entry.relied.now c k ≡ 0)
-            (λ p. (0 < p) × (p ≡ named_by self.entry.of.now self.entry.relied.now c k)) }
+        ensures { MatchOption result (named_by (owners self.entry.entries.now) self.entry.relied.now c k ≡ 0)
+            (λ p. (0 < p) × (p ≡ named_by (owners self.entry.entries.now) self.entry.relied.now c k)) }
     {
-        let owner = *self.of.get(k)? as usize;
+        let owner = self.entries.get(k)?.correction as usize;
         let p = *self.relied.get(k)? as usize;
         if (owner == c) & (p < c) & (0 < p) {
             Some(p)
@@ -111,7 +112,7 @@ impl Lines<'_> {
     // marked correction relies on is marked already, and a marked correction need not be gone into again. Where the lines of one correction
     // stand together, as a log has them, no line of another is looked at.
     fn mark(self, marks: &mut [u8; MARKS], c: usize)
-        ensures { Marked self.entry.of.now self.entry.relied.now marks.old marks.new c }
+        ensures { Marked (owners self.entry.entries.now) self.entry.relied.now marks.old marks.new c }
     {
         if c == 0 {
             return;
@@ -133,13 +134,13 @@ impl Lines<'_> {
 }
 
 // The marks of the wanted corrections and of all that they rely on, one byte for each number from 0 on.
-pub(crate) fn taken(of: &[u32], relied: &[u32], wanted: &[u32]) -> [u8; MARKS]
-    ensures { Taken of.now relied.now wanted.now result (length wanted.now) }
+pub(crate) fn taken(entries: &[Entry], relied: &[u32], wanted: &[u32]) -> [u8; MARKS]
+    ensures { Taken (owners entries.now) relied.now wanted.now result (length wanted.now) }
 {
     let lines = Lines {
-        of,
+        entries,
         relied,
-        spans: &spans_of(of),
+        spans: &spans_of(entries),
     };
     let mut marks = [0; MARKS];
     for c in wanted {

@@ -1,5 +1,6 @@
 -- A law for each way that it ends. Assumes nothing.
 use Rattle.std.proofs.lemmas.Result.{err_from_is_err_and}
+use mathlib.Core.Path.{sym, ◌∙◌}
 use Rattle.routes.proofs.SourceLaws.{own_count}
 use Rattle.selection.proofs.OpeningLaws.{opening_long, opening_file, opening_log, opening_read}
 use Rattle.selection.proofs.opening.Opened.new.Goals as goal
@@ -12,10 +13,11 @@ returns-in_err-check c = let p = err_from_is_err_and c.from_residual.result c.fr
     rw (p.1, p.2) (opening_file _ _ c.if-texts-gt-LONGEST_LOG.false c.check.ensures c.in_err-check.was)
 
 pub returns-in_err-index : goal.returns-in_err-index
-returns-in_err-index c = let p = err_from_is_err_and c.from_residual-in_err-index.result c.from_residual-in_err-index.ensures.1 in
-    rw (p.1, p.2) (opening_log _ _ c.if-texts-gt-LONGEST_LOG.false c.check.ensures c.in_ok-check.was (own_count _ c.sources_of.ensures).0 c.index_of-index.ensures c.in_err-index.was)
+returns-in_err-index c =
+    let p = err_from_is_err_and c.from_residual-in_err-index.result c.from_residual-in_err-index.ensures.1 in
+    rw (p.1, p.2) (opening_log _ _ c.if-texts-gt-LONGEST_LOG.false c.check.ensures c.in_ok-check.was (own_count _ c.sources_of.ensures).0 (sym c.index_of.ensures ∙ c.in_err-index.was))
 
 pub invariant_of-result : goal.invariant_of-result
 invariant_of-result c = record {
-  opens = opening_read _ _ c.if-texts-gt-LONGEST_LOG.false c.check.ensures c.in_ok-check.was (own_count _ c.sources_of.ensures).0 c.index_of-index.ensures c.in_ok-index.was;
+  opens = opening_read _ _ c.if-texts-gt-LONGEST_LOG.false c.check.ensures c.in_ok-check.was (own_count _ c.sources_of.ensures).0 (sym c.index_of.ensures ∙ c.in_ok-index.was);
 }

@@ -9,16 +9,16 @@ loop-j-init c = relied_start _ _ _ _
 
 pub returns-then-same : goal.returns-then-same
 returns-then-same c =
-    relied_found _ _ _ _ _ c.loop-j.invariant c.loop-j-test.true c.if-of-j.true c.same.ensures (c.record-record.ensures ∙ ap (record_at _ _) c.source.ensures)
-    (c.record-other.ensures ∙ ap (record_at _ _) c.source-then-of-j.ensures) c.if-same.true
+    relied_found _ _ _ _ _ c.loop-j.invariant c.loop-j-test.true c.if-earlier-own.true c.same.ensures (c.record-record.ensures ∙ ap (record_at _ _) c.source.ensures)
+    (c.record-other.ensures ∙ ap (record_at _ _) c.source-then-earlier-own.ensures) c.if-same.true
 
 pub loop-j-preserved-else-same : goal.loop-j-preserved-else-same
 loop-j-preserved-else-same c =
-    relied_other _ _ _ _ _ c.loop-j.invariant c.loop-j-test.true c.if-of-j.true c.same.ensures (c.record-record.ensures ∙ ap (record_at _ _) c.source.ensures)
-    (c.record-other.ensures ∙ ap (record_at _ _) c.source-then-of-j.ensures) c.if-same.false
+    relied_other _ _ _ _ _ c.loop-j.invariant c.loop-j-test.true c.if-earlier-own.true c.same.ensures (c.record-record.ensures ∙ ap (record_at _ _) c.source.ensures)
+    (c.record-other.ensures ∙ ap (record_at _ _) c.source-then-earlier-own.ensures) c.if-same.false
 
 pub loop-j-preserved : goal.loop-j-preserved
-loop-j-preserved c = relied_later _ _ _ _ _ c.loop-j.invariant c.loop-j-test.true c.if-of-j.false
+loop-j-preserved c = relied_later _ _ _ _ _ c.loop-j.invariant c.loop-j-test.true c.if-earlier-own.false
 
 pub returns : goal.returns
 returns c = relied_none _ _ _ _ _ c.loop-j.invariant c.loop-j-test.false
