@@ -43,16 +43,14 @@ pub fn numbers(text: &[u8]) -> Wanted
         at: [0u32; 201],
     };
     let mut i: usize = 0;
-    let mut k: usize = 0;
-    while k < 200 {
+    for k in 0..200 {
         if text.len() <= i {
             return found;
         }
         let end = slices::line_feed(text, i);
         let number = line_number(text, i, end);
         found.at[k] = number;
-        k += 1;
-        found.count = k;
+        found.count = k + 1;
         if text.len() <= end {
             return found;
         }

@@ -11,7 +11,7 @@ six : (width : ℕ) {most k : ℕ} → most ≡ min width 6 → k ≤ most → k
 six width e h = omega (arith, e, h)
 
 pub loop-k-init : goal.loop-k-init
-loop-k-init c = (c.least-most.ensures, search rules, small_start, value_start _ _ _)
+loop-k-init c = (c.min-most.ensures, search rules, small_start, value_start _ _ _)
 
 pub overflow_mul-n : goal.overflow_mul-n
 overflow_mul-n c = let s = small_fits _ _ (six _ c.loop-k.invariant.0 c.loop-k.invariant.1) c.loop-k.invariant.2 in
