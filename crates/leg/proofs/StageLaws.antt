@@ -1,22 +1,15 @@
 -- What one stage does: refuse by the column that it found, or hand on; and how it finds the column.
 -- Assumes nothing.
 use Rattle.refusals.specs.Table.{Verdict, Refused}
-use mathlib.Core.Path.{◌≡◌, refl, sym, ap, ◌∙◌}
+use mathlib.Core.Path.{◌≡◌, refl, sym, ◌∙◌}
 use mathlib.Core.Bool.{Bool, true, false, cond, not, ◌&&◌}
 use mathlib.Core.List.{List, [], ◌∷◌}
-use Prim.Native.Char.{code}
-use Prim.Native.Nat.{ℕ, zero, suc, ◌+◌, ◌≤◌, ◌<◌}
+use Prim.Native.Nat.{ℕ, ◌≤◌}
 use native.Mathlib.Omega.{arith}
-use native.Mathlib.Numerals.{add-one}
-use native.Mathlib.Nat.{le_of_suc-le-suc, not-suc-le-zero}
 use lib.Dec.{eqb}
-use lib.ListN.{length, get_or, drop, drop_of_length-le}
-use lib.Seq.{drop-cons}
 use borrow.Author.Tests.{eqb-false, ne_eqb}
 use Rattle.slices.specs.Part.{blank}
 use Rattle.columns.specs.Fields.{bytes_in}
-use Rattle.columns.specs.Rows.{byte_in}
-use Rattle.columns.specs.Words.{columns}
 use Rattle.columns.specs.declared.field.Field.{Field}
 use Rattle.refusals.specs.declared.Refusal.{Refusal}
 use Rattle.std.specs.Prelude.{Option, Some, None, option_map}
@@ -25,9 +18,7 @@ use Rattle.std.specs.List.{find}
 use Rattle.slices.proofs.Cases.{split, is_false, and_left, and_right}
 use Rattle.leg.specs.Judge.{stage}
 use Rattle.leg.specs.Stages.{found, odd_one, missing}
-use Rattle.leg.specs.Terminator.{terminator_number, terminator_of, in_line}
 use Rattle.leg.specs.declared.stages.Needable.{Needable}
-use Rattle.leg.specs.declared.terminator.Terminator.{Terminator}
 
 module _ {c x : ℕ} (f : ℕ → Refusal) (next : Verdict) (e : x ≡ c) where
   pub stage_refuses : {r : Refusal} → (x ≡ 0 → ⊥) → r ≡ f x → Refused r ≡ stage c f next

@@ -3,21 +3,21 @@
 -- Assumes nothing.
 use mathlib.Core.Path.{◌≡◌, refl, sym, ap, subst, ◌∙◌}
 use mathlib.Core.Logic.{◌↔◌, ◌⊎◌, inl, inr, ⊎_elim}
-use mathlib.Core.Bool.{Bool, true, false, cond, ◌&&◌, ◌||◌, or-false, false≢true}
+use mathlib.Core.Bool.{Bool, true, false, cond, ◌||◌, or-false, false≢true}
 use mathlib.Core.List.Memᴰ
 use mathlib.Core.List.{List, [], ◌∷◌, ◌++◌, map, Memᴰ}
 use Prim.Native.Char.{code}
-use Prim.Native.Nat.{ℕ, zero, suc, ◌+◌, ◌*◌, ◌-◌, ◌≤◌, ◌<◌}
+use Prim.Native.Nat.{ℕ, zero, suc, ◌*◌, ◌-◌, ◌≤◌, ◌<◌}
 use native.Mathlib.Omega.{arith}
 use native.Mathlib.Decide.{dec_lt}
 use native.Mathlib.Nat.{le_of_suc-le-suc, not-suc-le-zero}
 use lib.Dec.{eqb}
 use lib.ListN.{length, get_or, replicate, get_or-eq_default}
-use borrow.Author.Tests.{eqb-true, eqb-false, eq-eqb}
+use borrow.Author.Tests.{eqb-true, eqb-false}
 use Rattle.slices.specs.Part.{part, member}
 use Rattle.slices.specs.Order.{order, equal}
 use Rattle.slices.specs.Search.{first_at}
-use Rattle.slices.proofs.Cases.{split, both, and_left, and_right}
+use Rattle.slices.proofs.Cases.{split}
 use Rattle.slices.proofs.EveryLaws.{every, below, each_below}
 use Rattle.slices.proofs.OrderLaws.{equal_iff}
 use Rattle.slices.proofs.PartLaws.{get_or_any, part_all, member_append, member_replicate}

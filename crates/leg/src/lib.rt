@@ -25,6 +25,7 @@ fn judge_leg(rec: &[u8], place: usize) -> Verdict
 }
 
 // All three stages, of which the first found a column, or 0: so `columns` answers, by its contract.
+#[tactic(auto, using(crate::proofs::StageLaws::stage_refuses, crate::proofs::StageLaws::stage_passes))]
 fn judge_by(column: usize, rec: &[u8], place: usize) -> Verdict
     ensures { result ≡ judged_by column place rec.now }
 {
@@ -40,6 +41,7 @@ fn judge_by(column: usize, rec: &[u8], place: usize) -> Verdict
 // Judges one record by itself, as the one at a place: 3 for the first byte at which the leftmost field that holds nothing legal can't go on
 // to anything legal, 4 for a companion that is blank, 5 for a needed field that is blank, in this order. A continuation has the first of
 // these stages alone.
+#[tactic(auto, unfolding(crate::specs::Judge::judged))]
 pub fn judge(rec: &[u8], place: usize) -> Verdict
     ensures { result ≡ judged place rec.now }
 {
@@ -47,6 +49,7 @@ pub fn judge(rec: &[u8], place: usize) -> Verdict
 }
 
 // The same of a record that parts make: 3 has the first column of the field, wherever in it the trouble lies.
+#[tactic(auto, unfolding(crate::specs::Judge::judged_parts))]
 pub fn judge_parts(rec: &[u8], place: usize) -> Verdict
     ensures { result ≡ judged_parts place rec.now }
 {

@@ -151,6 +151,7 @@ impl Terminator {
     }
 
     // The terminator in columns 48 and 49 of a record; VR where they hold none, which is refused by 3 before anything asks.
+    #[tactic(auto, using(crate::proofs::TerminatorLaws::found), unfolding(slices::specs::Part::part))]
     pub fn of(rec: &[u8]) -> Terminator
         ensures { result ≡ terminator_of (columns 48 49 rec.now) }
     {

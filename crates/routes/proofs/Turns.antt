@@ -23,7 +23,7 @@ use Rattle.routes.specs.Stages.{seen, nothing, columns_to, first_difference}
 use Rattle.routes.specs.Walk.{is_primary, followed, ends_route, primary_after}
 use Rattle.routes.specs.Known.{knows, judged_knowing, walk_knowing}
 use Rattle.routes.proofs.InTurnLaws.{goes_on, stops}
-use Rattle.routes.proofs.SourceLaws.{first_of, rest_join}
+use Rattle.routes.proofs.SourceLaws.{rest_join}
 
 -- ---- the first difference of two records, of which k columns are the same
 
@@ -103,12 +103,12 @@ in_view frozen log sources n i h =
     sym (map-append (record_at frozen log) (drop (i + 1) (take n sources)) (drop n sources)) ∙ ap (map (record_at frozen log)) (rest_join (i + 1) n sources (omega arith))
 
 module _ (known frozen log sources : List ℕ) (n : ℕ) (primary before : List ℕ) (i : ℕ) where
-  pub walking_end : n ≤ i → walking known frozen log sources n primary before i ≡ Accepted
+  pub walking_end : length (take n sources) ≤ i → walking known frozen log sources n primary before i ≡ Accepted
   unfolding walking walk_knowing
-  walking_end h = rw (drop_of_length-le (take n sources) {i = i} (omega (arith, length-take n sources)))
+  walking_end h = rw (drop_of_length-le (take n sources) h)
 
-  module _ (h : i < n) (long : n ≤ length sources) {b : Bool} (p : b ≡ knows known (get_or sources i 0)) {rec : List ℕ}
-      (e : rec ≡ record_at frozen log (get_or sources i 0)) {d : Bool}
+  module _ (h : i < length (take n sources)) {b : Bool} (p : b ≡ knows known (get_or (take n sources) i 0)) {rec : List ℕ}
+      (e : rec ≡ record_at frozen log (get_or (take n sources) i 0)) {d : Bool}
       (z : d ≡ ends_route rec (map (record_at frozen log) (take (length sources - (i + 1)) (drop (i + 1) sources))))
       {v : Verdict} (q : v ≡ judged_knowing b (seen primary before) (i + 1) d rec) where
     walking_cons : walking known frozen log sources n primary before i
@@ -119,7 +119,8 @@ module _ (known frozen log sources : List ℕ) (n : ℕ) (primary before : List 
     unfolding walking walk_knowing
     walking_cons =
         let rest : take (length sources - (i + 1)) (drop (i + 1) sources) ≡ drop (i + 1) sources = take_all (length sources - (i + 1)) (drop (i + 1) sources) (omega (arith, length-drop (i + 1) sources)) in
-        rw (first_of sources i n (omega arith), in_view frozen log sources n i h, ← p, ← e, ← rest, ← z, q)
+        let next : drop i (take n sources) ≡ get_or (take n sources) i 0 ∷ drop (i + 1) (take n sources) = rw add-one (drop-cons (take n sources) i 0 h) in
+        rw (next, in_view frozen log sources n i (omega (arith, h, length-take n sources)), ← p, ← e, ← rest, ← z, q)
 
     pub walking_stop : {r : Refusal} → v ≡ Refused r → walking known frozen log sources n primary before i ≡ Refused r
     walking_stop x = walking_cons ∙ sym (stops _ x)

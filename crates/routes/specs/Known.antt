@@ -6,8 +6,7 @@ use Rattle.std.specs.Prelude.{ℕ, ◌+◌, ◌-◌, ◌/◌, ◌≡◌, Bool, t
 use Rattle.leg.specs.Judge.{judged}
 use Rattle.leg.specs.Legal.{Legal}
 use Rattle.routes.specs.InTurn.{in_turn}
-use Rattle.routes.specs.Sources.{first_of_log, record_at, sources_in, records_in}
-use Rattle.routes.specs.declared.Sources.{Sources}
+use Rattle.routes.specs.Sources.{first_of_log, record_at}
 use Rattle.routes.specs.Stages.{Seen, nothing}
 use Rattle.routes.specs.Walk.{ends_route, judged_behind, judged_next, seen_with, finished}
 

@@ -118,8 +118,7 @@ fn walk<'a>(texts: Texts<'a>, known: &[u32], sources: &[u32], n: usize) -> Verdi
         primary: &[],
         before: &[],
     };
-    for i in 0..n {
-        let source = sources[i];
+    for (i, &source) in sources[..n].iter().enumerate() {
         let rec = texts.record(source);
         let last = ends_route(texts, &sources[i + 1..], rec);
         seen.judge_next(knows(known, source), rec, i + 1, last)?;
@@ -179,6 +178,7 @@ pub fn judge_range<'a>(
 }
 
 // What stands behind the n leading records of a file, each of 133 bytes: nothing, or a record that is cut short.
+#[tactic(auto, using(crate::proofs::FileLaws::tail_none, crate::proofs::FileLaws::tail_some))]
 fn judge_tail(file: &[u8], n: usize) -> Verdict
     requires { n ≤ 480 }
     ensures { result ≡ tail_stage (length file.now) n }

@@ -6,4 +6,5 @@ pub mod SearchLaws
 pub mod WriteLaws
 pub mod EveryLaws
 pub mod StdLaws
+mod WordLaws
 mod Turns

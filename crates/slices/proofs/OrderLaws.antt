@@ -11,6 +11,7 @@ use lib.Dec.{ltb, eqb}
 use lib.ListN.{length}
 use borrow.Author.Tests.{ltb-true, ltb-false, lt-ltb, le-ltb, eq-eqb, ne_eqb}
 use Rattle.slices.specs.Order.{order, is_equal, equal}
+use Rattle.std.specs.Ordering.{ordering_then, ordering_reverse}
 use Rattle.std.specs.declared.cmp.Ordering.{Ordering}
 use Rattle.std.specs.declared.cmp.Ordering.TheVariants.{Less, Equal, Greater}
 
@@ -114,9 +115,7 @@ transitive (x ∷ xs) (y ∷ ys) (z ∷ zs) p q =
 
 -- the other way round
 abbrev pub turned : Ordering → Ordering
-turned Less = Greater
-turned Equal = Equal
-turned Greater = Less
+turned = ordering_reverse
 
 turn_of_lem : (x y : ℕ) (xs ys : List ℕ) (o : Ordering) → Way x y (order xs ys) o → order ys xs ≡ turned (order xs ys) → order (y ∷ ys) (x ∷ xs) ≡ turned o
 turn_of_lem x y xs ys _ (less h) e = order_greater y x ys xs h
@@ -141,9 +140,7 @@ total xs ys = by (order xs ys) refl
 
 -- the first answer that is not level
 abbrev pub after : Ordering → Ordering → Ordering
-after Less p = Less
-after Equal p = p
-after Greater p = Greater
+after = ordering_then
 
 append_of : (x y : ℕ) (xs ys xs' ys' : List ℕ) (o : Ordering) → Way x y (order xs ys) o
     → order (xs ++ xs') (ys ++ ys') ≡ after (order xs ys) (order xs' ys')

@@ -13,9 +13,6 @@ use native.Mathlib.Decide.{dec_lt}
 use lib.Seq.{drop-cons, take_all, get_or-append-add}
 use lib.Dec.{eqb, ltb, eqb-suc-zero}
 use borrow.Author.Tests.{eqb-true, eq-eqb, ne_eqb, lt-ltb}
-use Rattle.std.specs.Prelude.{Option, None, Some, MatchOption, slice_range}
-use Rattle.std.specs.Slice.{IsGetRangeResult}
-use denote.Ref.{Bor}
 use Rattle.slices.specs.Part.{part, blank, member}
 use Rattle.slices.proofs.Cases.{and_left, and_right, either, or_left, or_right}
 
@@ -105,18 +102,8 @@ part_take zero i xs h = refl
 part_take (suc n) i xs h =
     rw (drop-cons xs i 0 (omega arith)) (ap (λ (t : List ℕ). get_or xs i 0 ∷ t) (part_take n (suc i) xs (omega arith)))
 
--- a cut of what is left of a list is a run, where it is there
-pub cut_is : (n i : ℕ) (xs ys : List ℕ) (r : Option (Bor (List ℕ))) → (i ≤ length xs) × (length xs ≤ length xs) × (ys ≡ slice_range xs i (length xs)) × (length ys + i ≡ length xs)
-    → IsGetRangeResult ys 0 n r → MatchOption r (length xs < i + n) (λ t. (i + n ≤ length xs) × (t.now ≡ part n i xs))
-cut_is n i xs ys None h g = by (dec_lt (length xs) (i + n))
-  where
-    by : Dec (length xs < i + n) → length xs < i + n
-    by (yes k) = k
-    by (no k) = absurd (false≢true (g.1 (omega arith, omega arith)))
-cut_is n i xs ys (Some t) h g =
-    let l : i + n ≤ length xs = omega arith in
-    let rest : ys ≡ drop i xs = h.2 ∙ take_all (length xs - i) (drop i xs) (omega (arith, length-drop i xs)) in
-    (l, g.0.2 ∙ rw (sub-zero, rest) (sym (part_take n i xs l)))
+pub part_range : (n i : ℕ) (xs : List ℕ) → i + n ≤ length xs → take (i + n - i) (drop i xs) ≡ part n i xs
+part_range n i xs h = let e : i + n - i ≡ n = omega arith in rw e (sym (part_take n i xs h))
 
 -- a whole list is the run of its length
 pub part_all : (xs : List ℕ) → part (length xs) 0 xs ≡ xs

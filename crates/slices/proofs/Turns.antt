@@ -1,13 +1,23 @@
--- One turn of the loop that compares past an end, as an equation between what is left before it and after it.
+-- Whether a run lies within a list, by a test that does not overflow. One turn of the loop that compares past an end, as an equation
+-- between what is left before it and after it.
 -- Assumes nothing.
 use Rattle.std.proofs.Common.{◌≡◌, refl, sym, ap, ◌∙◌, ℕ, List, ◌∷◌, ◌+◌, ◌-◌, ◌≤◌, ◌<◌, arith, get_or, true, false}
+use mathlib.Core.Bool.{Bool, ◌&&◌}
+use lib.Dec.{leb}
+use borrow.Author.Tests.{leb-true}
 use Rattle.slices.specs.Part.{part}
 use Rattle.slices.specs.Order.{order}
 use Rattle.std.specs.declared.cmp.Ordering.{Ordering}
 use Rattle.std.specs.declared.cmp.Ordering.TheVariants.{Less, Equal, Greater}
 use Rattle.std.specs.Ordering.{nat_cmp, ordering_then, is_ne}
+use Rattle.slices.proofs.Cases.{and_left, and_right}
 use Rattle.slices.proofs.PartLaws.{part_next, part_done, part_whole}
 use Rattle.slices.proofs.StdLaws.{order_step}
+
+-- that two runs lie within
+pub both_lie : (i n m j k : ℕ) {s t : Bool} → s ≡ leb (i + n) m → t ≡ leb (j + n) k → (s && t) ≡ true → (i + n ≤ m) × (j + n ≤ k)
+both_lie i n m j k {s} {t} hs ht h =
+    (leb-true (i + n) m (sym hs ∙ and_left s t h), leb-true (j + n) k (sym ht ∙ and_right s t h))
 
 -- two runs of n bytes, of which k are passed
 unfoldable pub comparing : List ℕ → ℕ → List ℕ → ℕ → ℕ → ℕ → Ordering
@@ -22,12 +32,12 @@ unfolding comparing order
 comparing_end a i b j n k h = rw (part_done n i a k h, part_done n j b k h)
 
 -- an answer that is not level stands, and behind one that is comes the rest's
-stops : (o p : Ordering) → is_ne o ≡ true → ordering_then o p ≡ o
+pub stops : (o p : Ordering) → is_ne o ≡ true → ordering_then o p ≡ o
 stops Less p e = refl
 stops Equal p e = cc
 stops Greater p e = refl
 
-goes : (o p : Ordering) → is_ne o ≡ false → ordering_then o p ≡ p
+pub goes : (o p : Ordering) → is_ne o ≡ false → ordering_then o p ≡ p
 goes Less p e = cc
 goes Equal p e = refl
 goes Greater p e = cc

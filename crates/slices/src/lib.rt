@@ -2,7 +2,7 @@
 // that is put past it is dropped, so no public function here asks anything of its caller.
 #![tactic(auto)]
 
-ghost use Rattle.std.specs.Prelude.{◌≡◌, ◌++◌, ◌+◌, ◌-◌, ◌≤◌, ◌<◌, MatchOption, min, get_or, length, set, take, drop, replicate, leb};
+ghost use Rattle.std.specs.Prelude.{◌≡◌, ◌++◌, ◌+◌, ◌-◌, ◌≤◌, ◌<◌, min, get_or, length, set, take, drop, replicate, leb};
 ghost use Rattle.std.proofs.lemmas.List.Edits.{sets};
 ghost use Rattle.slices.specs.Part.{part, blank, member};
 ghost use Rattle.slices.specs.Order.{order, equal};
@@ -24,18 +24,11 @@ pub fn byte_at(s: &[u8], i: usize) -> u8
     s.get(i).copied().unwrap_or(0)
 }
 
-// What is left of a slice from i on, or nothing past the end.
-fn rest(s: &[u8], i: usize) -> &[u8]
-    ensures { result.now ≡ drop i s.now }
-{
-    s.get(i..).unwrap_or(&[])
-}
-
 // The byte k places after i, or 0 past the end; i + k may be larger than any usize.
 pub fn byte_after(s: &[u8], i: usize, k: usize) -> u8
     ensures { result ≡ get_or s.now (i + k) 0 }
 {
-    byte_at(rest(s, i), k)
+    i.checked_add(k).map_or(0, |place| byte_at(s, place))
 }
 
 // Puts b in the place k after i, or nowhere past the end.
@@ -48,21 +41,51 @@ pub fn put_after(out: &mut [u8], i: usize, k: usize, b: u8)
     }
 }
 
-// The n bytes from i on, where they lie within; i + n may be larger than any usize.
-fn within(s: &[u8], i: usize, n: usize) -> Option<&[u8]>
-    ensures { MatchOption result (length s.now < i + n) (λ r. (i + n ≤ length s.now) × (r.now ≡ part n i s.now)) }
+// What is left of a slice from i on, or nothing past the end.
+fn rest(s: &[u8], i: usize) -> &[u8]
+    ensures { result.now ≡ drop i s.now }
 {
-    s.get(i..)?.get(..n)
+    s.get(i..).unwrap_or(&[])
 }
 
-// How the n bytes of a from i on stand to the n bytes of b from j on, by the first that differs.
+// Whether the n bytes from i on lie within the slice; i + n may be larger than any usize.
+fn lies(s: &[u8], i: usize, n: usize) -> bool
+    ensures { result ≡ leb (i + n) (length s.now) }
+{
+    i <= s.len() && n <= s.len() - i
+}
+
+// How the n bytes of a from i on stand to the n bytes of b from j on, by the first that differs. It and what it calls are to be inlined:
+// where n is a number in the caller's code, nothing is left of the loops but the loads.
+#[inline]
 pub fn compare(a: &[u8], i: usize, b: &[u8], j: usize, n: usize) -> Ordering
     ensures { result ≡ order (part n i a.now) (part n j b.now) }
 {
-    match (within(a, i, n), within(b, j, n)) {
-        (Some(x), Some(y)) => x.cmp(&y),
-        _ => compare_past(a, i, b, j, n),
+    if lies(a, i, n) & lies(b, j, n) {
+        compare_words(&a[i..i + n], &b[j..j + n])
+    } else {
+        compare_past(a, i, b, j, n)
     }
+}
+
+// The order of bytes, eight at a time while there are so many. The library's `cmp` and `==` of slices took a third to a half more
+// instructions for a whole pick.
+#[inline]
+fn compare_words(mut x: &[u8], mut y: &[u8]) -> Ordering
+    ensures { result ≡ order x.entry.now y.entry.now }
+{
+    while let (Some((p, x_rest)), Some((q, y_rest))) = (
+        x.split_first_chunk::<8>(),
+        y.split_first_chunk::<8>(),
+    ) {
+        let way = compare_word(p, q);
+        if way.is_ne() {
+            return way;
+        }
+        x = x_rest;
+        y = y_rest;
+    }
+    x.iter().cmp(y.iter())
 }
 
 // The order of bytes that may be past an end.
@@ -78,23 +101,30 @@ fn compare_past(a: &[u8], i: usize, b: &[u8], j: usize, n: usize) -> Ordering
     Ordering::Equal
 }
 
+// The order of eight bytes, by one comparison.
+#[inline]
+fn compare_word(p: &[u8; 8], q: &[u8; 8]) -> Ordering
+    ensures { result ≡ order p.now q.now }
+{
+    u64::from_be_bytes(*p).cmp(&u64::from_be_bytes(*q))
+}
+
 // Whether the n bytes of a from i on are the n bytes of b from j on.
+#[inline]
 pub fn same(a: &[u8], i: usize, b: &[u8], j: usize, n: usize) -> bool
     ensures { result ≡ equal (part n i a.now) (part n j b.now) }
 {
-    match (within(a, i, n), within(b, j, n)) {
-        (Some(x), Some(y)) => x == y,
-        _ => compare_past(a, i, b, j, n).is_eq(),
-    }
+    compare(a, i, b, j, n).is_eq()
 }
 
 // Whether the n bytes from i on are all blanks. None past the end is one.
 pub fn is_blank(s: &[u8], i: usize, n: usize) -> bool
     ensures { result ≡ blank (part n i s.now) }
 {
-    match within(s, i, n) {
-        Some(run) => run.iter().all(|b| *b == b' '),
-        None => n == 0,
+    if lies(s, i, n) {
+        s[i..i + n].iter().all(|b| *b == b' ')
+    } else {
+        n == 0
     }
 }
 
@@ -102,10 +132,12 @@ pub fn is_blank(s: &[u8], i: usize, n: usize) -> bool
 pub fn has(s: &[u8], i: usize, n: usize, b: u8) -> bool
     ensures { result ≡ member b (part n i s.now) }
 {
-    match within(s, i, n) {
-        Some(run) => run.contains(&b),
-        None if b == 0 => 0 < n,
-        None => rest(s, i).contains(&b),
+    if lies(s, i, n) {
+        s[i..i + n].contains(&b)
+    } else if b == 0 {
+        0 < n
+    } else {
+        rest(s, i).contains(&b)
     }
 }
 
@@ -113,9 +145,10 @@ pub fn has(s: &[u8], i: usize, n: usize, b: u8) -> bool
 pub fn copy(from: &[u8], i: usize, out: &mut [u8], at: usize, n: usize)
     ensures { out.new ≡ sets out.old at (part n i from.now) }
 {
-    match (within(from, i, n), within(out, at, n)) {
-        (Some(run), Some(_)) => out[at..at + n].copy_from_slice(run),
-        _ => copy_past(from, i, out, at, n),
+    if lies(from, i, n) & lies(out, at, n) {
+        out[at..at + n].copy_from_slice(&from[i..i + n]);
+    } else {
+        copy_past(from, i, out, at, n);
     }
 }
 

@@ -3,7 +3,6 @@ use mathlib.Core.Path.{◌≡◌, sym, ◌∙◌}
 use native.Mathlib.Nat.{zero-add}
 use Rattle.routes.proofs.SourceLaws.{left_start, left_stop, left_next, left_end, one_more, none_left}
 use native.Mathlib.Omega.{arith}
-use borrow.Author.Rules.{rules}
 use Rattle.routes.proofs.count_records.Goals as goal
 
 pub loop-i-init : goal.loop-i-init

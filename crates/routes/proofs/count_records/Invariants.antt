@@ -1,6 +1,6 @@
 -- The invariant: the number of records that are left. Assumes nothing.
 use mathlib.Core.Path.{◌≡◌}
-use Prim.Native.Nat.{◌≤◌, ◌+◌}
+use Prim.Native.Nat.{◌+◌}
 use lib.ListN.{length}
 use Rattle.routes.specs.Sources.{records}
 use Rattle.routes.proofs.SourceLaws.{records_left}

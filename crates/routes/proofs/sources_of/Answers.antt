@@ -1,7 +1,6 @@
 -- As many as there are records. Assumes nothing.
 use mathlib.Core.Path.{ap, ◌∙◌}
-use Rattle.routes.specs.Sources.{sources_to, records, sources_of}
-use Rattle.routes.proofs.SourceLaws.{at_most}
+use Rattle.routes.specs.Sources.{sources_to, sources_of}
 use Rattle.routes.proofs.sources_of.Goals as goal
 
 pub returns : goal.returns

@@ -14,12 +14,12 @@ returns-in_err-judge_next c =
     let inv = c.loop-i.invariant in
     let e : c.from_residual.result ≡ Refused c.in_err-judge_next.field-0.0 = search rules in
     e
-    ∙ sym (inv ∙ walking_stop _ _ _ _ _ _ _ _ c.loop-i-test.true c.requires c.knows.ensures c.record-rec.ensures c.ends_route-last.ensures c.judge_next.ensures c.in_err-judge_next.was)
+    ∙ sym (inv ∙ walking_stop _ _ _ _ _ _ _ _ c.loop-i-test.true c.knows.ensures c.record-rec.ensures c.ends_route-last.ensures c.judge_next.ensures c.in_err-judge_next.was)
 
 pub loop-i-preserved : goal.loop-i-preserved
 loop-i-preserved c = let inv = c.loop-i.invariant in
     inv
-    ∙ walking_next _ _ _ _ _ _ _ _ c.loop-i-test.true c.requires c.knows.ensures c.record-rec.ensures c.ends_route-last.ensures c.judge_next.ensures
+    ∙ walking_next _ _ _ _ _ _ _ _ c.loop-i-test.true c.knows.ensures c.record-rec.ensures c.ends_route-last.ensures c.judge_next.ensures
     c.in_ok-judge_next.was c.after-seen.ensures.primary c.after-seen.ensures.before
 
 pub returns : goal.returns

@@ -1,8 +1,7 @@
 -- The invariant: what is left of the sources decides the answer. Assumes nothing.
 use mathlib.Core.Path.{◌≡◌}
 use mathlib.Core.List.{map}
-use Prim.Native.Nat.{◌≤◌}
-use lib.ListN.{length, take, drop}
+use lib.ListN.{take, drop}
 use Rattle.routes.specs.Sources.{record_at}
 use Rattle.routes.specs.Stages.{nothing}
 use Rattle.routes.specs.Known.{walk_knowing}

@@ -1,8 +1,11 @@
--- The order of slices is that of their bytes. Assumes nothing.
+-- What is compared are the runs. Assumes nothing.
 use Rattle.std.proofs.Common.{ap₂, ◌∙◌}
 use Rattle.slices.specs.Order.{order}
-use Rattle.slices.proofs.StdLaws.{order_std}
+use Rattle.slices.proofs.PartLaws.{part_range}
+use Rattle.slices.proofs.Turns.{both_lie}
 use Rattle.slices.proofs.compare.Goals as goal
 
-pub returns-in-Some-Some : goal.returns-in-Some-Some
-returns-in-Some-Some c = c.cmp.ensures ∙ order_std c.in-Some-Some.x.now c.in-Some-Some.y.now ∙ ap₂ order c.in-Some-Some.ensures.1 c.in-Some-Some.ensures'.1
+pub returns-then-lies : goal.returns-then-lies
+returns-then-lies c =
+    let h = both_lie _ _ _ _ _ c.lies.ensures c.lies-2.ensures c.if-lies.true in
+    c.compare_words.ensures ∙ ap₂ order (part_range _ _ _ h.0) (part_range _ _ _ h.1)

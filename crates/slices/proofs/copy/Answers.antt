@@ -1,11 +1,11 @@
--- Places that lie within take a run's bytes. Assumes nothing.
-use Rattle.std.proofs.Common.{arith, ap, ◌∙◌, length-take-le, length-drop}
-use Rattle.slices.proofs.PartLaws.{length_part}
+-- What is copied is the run, to places that are there. Assumes nothing.
+use Rattle.std.proofs.Common.{◌∙◌}
+use Rattle.slices.proofs.PartLaws.{part_range}
 use Rattle.slices.proofs.WriteLaws.{put_run}
+use Rattle.slices.proofs.Turns.{both_lie}
 use Rattle.slices.proofs.copy.Goals as goal
 
-pub copy_from_slice-requires : goal.copy_from_slice-requires
-copy_from_slice-requires c = rw (c.in-Some-Some.ensures.1, length_part) (grind (arith, length-take-le, length-drop))
-
-pub returns-in-Some-Some : goal.returns-in-Some-Some
-returns-in-Some-Some c = put_run _ _ _ _ _ _ c.in-Some-Some.ensures'.0 (c.copy_from_slice.ensures.after ∙ c.in-Some-Some.ensures.1)
+pub returns-then-lies : goal.returns-then-lies
+returns-then-lies c =
+    let h = both_lie _ _ _ _ _ c.lies.ensures c.lies-2.ensures c.if-lies.true in
+    put_run _ _ _ _ _ _ h.1 (c.copy_from_slice.ensures.after ∙ part_range _ _ _ h.0)

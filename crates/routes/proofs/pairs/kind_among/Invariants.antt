@@ -1,6 +1,4 @@
 -- The invariant: the lines that are left give the answer. Assumes nothing.
-use mathlib.Core.Path.{◌≡◌}
-use Prim.Native.Nat.{◌≤◌}
 use Rattle.slices.proofs.SearchLaws.{Come}
 use Rattle.columns.specs.Rows.{byte_in}
 use Rattle.routes.specs.Pairs.{of_line, kind_lines}

@@ -5,7 +5,6 @@ use Rattle.routes.proofs.Steps.{difference_iff, found_one}
 use Rattle.slices.proofs.PartLaws.{length_part}
 use Rattle.slices.proofs.OrderLaws.{equal_iff}
 use mathlib.Core.Path.{sym, ap, ◌∙◌}
-use borrow.Author.Rules.{rules}
 use native.Mathlib.Omega.{arith}
 use Rattle.routes.proofs.stages.first_difference.Goals as goal
 

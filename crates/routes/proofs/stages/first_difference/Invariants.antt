@@ -1,7 +1,6 @@
 -- The invariant: what is left of the two records decides the answer. Assumes nothing.
 use Rattle.routes.proofs.Turns.{differing}
 use Rattle.routes.specs.Stages.{columns_to, first_difference}
-use Prim.Native.Nat.{◌≤◌}
 use mathlib.Core.Path.{◌≡◌}
 use Rattle.routes.proofs.stages.first_difference.Given as goal
 
