@@ -22,7 +22,7 @@ pub struct Route {
     pub transition: Option<Text>,
 }
 
-// Columns 30-38.
+// Columns 30-38. A navaid and a centre fix have the same parts, and types of their own, so that one can't be passed for another.
 #[derive(Clone, Copy, Debug, PartialEq, Eq)]
 pub struct Fix {
     pub identifier: Option<Text>,

@@ -10,7 +10,8 @@ pub(crate) trait Part: Copy {
     // The bytes of a part, in a field of so many columns.
     ghost bytes: { ℕ → Self → List ℕ };
 
-    // Puts the part into a field; one that the field can't hold leaves a byte 0, which is legal nowhere.
+    // Puts the part into a field; one that the field can't hold leaves a byte 0, which is legal nowhere. Where the field lies is asked for, here
+    // and by the readers of numbers, and not kept in its type: `Field` is public, and it and `field` in specs/ are of any two numbers.
     fn put(self, out: &mut [u8], field: Field)
         requires { (field.0 ≤ 132) × (field.1 ≤ 6) }
         ensures { out.new ≡ fill field (bytes field.1 self) out.old };

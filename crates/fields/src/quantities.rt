@@ -42,7 +42,8 @@ pub enum Altitude {
     Level(FlightLevel),
 }
 
-// The quantity in a field of plain digits.
+// The quantity in a field of plain digits. What is read where a field isn't blank differs from one reader to the next, in what it asks of the
+// field and of the leg besides, so that each tests for blanks by itself.
 #[tactic(auto, unfolding(crate::specs::Optional::unless_blank))]
 pub(crate) fn quantity_in<U: Unit>(rec: &[u8], field: Field) -> Option<U>
     requires { field.1 ≤ 6 }

@@ -1,5 +1,5 @@
 // Text as bytes by value, and a letter; both may be absent. They may have any bytes: those that no legal record holds are refused when
-// they are written. Assumes of its callers, all in this crate, that columns count from 1 and a field of text has at most six.
+// they are written. Assumes of its callers, all in this crate, that a field of text has at most six columns.
 ghost use Rattle.std.specs.Prelude.{◌≡◌, [], ◌∷◌, ◌+◌, ◌-◌, ◌≤◌, get_or};
 ghost use Rattle.slices.specs.Part.{blank};
 ghost use Rattle.columns.specs.Rows.{byte_in, field_at};
@@ -11,7 +11,8 @@ use crate::part::Part;
 use columns::field::Field;
 use slices::{byte_after, byte_at, copy, is_blank, put_after};
 
-// Up to six bytes from the left, blanks behind them.
+// Up to six bytes from the left, blanks behind them. Six fields and no array: the theorems on writing (`leg_written`) speak of every text, and
+// of an array they would have to say besides that it has six bytes.
 #[derive(Clone, Copy, Debug, PartialEq, Eq)]
 pub struct Text(pub u8, pub u8, pub u8, pub u8, pub u8, pub u8);
 
@@ -124,8 +125,10 @@ pub(crate) fn word_in(rec: &[u8], field: Field) -> Option<Text>
 pub(crate) fn letter_in(rec: &[u8], field: Field) -> Option<Letter>
     ensures { result ≡ letter_of (field_at field.0 1 rec.now) }
 {
-    let b = byte_in(rec, field);
-    if b == b' ' { None } else { Some(Letter(b)) }
+    match byte_in(rec, field) {
+        b' ' => None,
+        b => Some(Letter(b)),
+    }
 }
 
 // A text of blanks alone leaves a byte 0: reading would find it absent.
