@@ -1,7 +1,9 @@
 -- Laws of the answers: what the code has of a pick, of a new file and of a log's verdict is what the definitions say.
 -- Assumes nothing.
+use Rattle.std.specs.Prelude.{Result, Ok, Err, IsOk}
 use Rattle.refusals.specs.Table.{Verdict, Accepted, Refused}
 use mathlib.Core.Path.{◌≡◌, refl, sym, ap, subst, ◌∙◌}
+use mathlib.Core.Bool.{false≢true}
 use mathlib.Core.List.{List, [], ◌∷◌, ◌++◌, map}
 use Prim.Native.Nat.{ℕ, ◌-◌, ◌*◌, ◌≤◌}
 use native.Mathlib.Omega.{arith}
@@ -18,12 +20,14 @@ use Rattle.routes.specs.Legal.{lines}
 use Rattle.routes.specs.Sources.{record_at, records, sources_of, sources_for}
 use Rattle.routes.specs.declared.Sources.{Sources}
 use Rattle.routes.proofs.Lines.{length_lines}
-use Rattle.corrections.specs.Reading.{Reading, refused, said, read_log, index_of}
+use Rattle.corrections.specs.Reading.{Reading, refused, said, read_log, index_of, index_with}
 use Rattle.corrections.specs.declared.Index.{Index}
 use Rattle.routes.proofs.SourceLaws.{own_count}
 use Rattle.selection.specs.Pick.{Pick, refused_by, picked, log_verdict, pick_of, file_pick, new_records, new_bytes, picked_as}
 use Rattle.selection.specs.declared.Picked.{Picked}
-use Rattle.selection.proofs.Demand.{picked_demand}
+use Rattle.corrections.specs.Text.{LegalLog}
+use Rattle.corrections.proofs.Legality.{accepted_iff}
+use Rattle.selection.proofs.Demand.{log_runs, picked_demand}
 use Rattle.answers.specs.Answers.{no_line, count_line, take_lines, pick_text, file_text, correction_count, check_answer, pick_answer, newfile_answer, picked_text}
 
 -- ---- the wanted numbers
@@ -121,20 +125,35 @@ module _ (f l want ws : List ℕ) (n : ℕ) (room : 63840 ≤ n) (q : ws ≡ num
 
 -- ---- a log
 
-count_said : (r : Reading) → (index_of r).corrections ≡ correction_count r
-unfolding index_of
-count_said (refused r) = refl
-count_said (said n es) = refl
+-- the word as the code has it
+pub ok_line : (a b : ℕ) → count_line (111 ∷ 107 ∷ []) a b ≡ count_line (codes "ok") a b
+unfolding codes
+ok_line a b = refl
+
+count_said : (r : Reading) {i : Index} → index_of r ≡ Ok i → i.corrections ≡ correction_count r
+unfolding index_of index_with
+count_said (refused r) e = let z : ◌≡◌ {A = ℕ} 0 1 = cc in absurd (omega arith)
+count_said (said n es) {i} e = let same : index_with n es ≡ i = cc in sym (ap (λ (x : Index). x.corrections) same)
 
 module _ (f l : List ℕ) {v : Verdict} (e : v ≡ log_verdict f l) where
-  pub check_accepted : v ≡ Accepted → {s : Sources} {i : Index} → s ≡ sources_of f → i ≡ index_of (read_log l s.count)
-      → count_line (111 ∷ 107 ∷ []) s.count i.corrections ≡ check_answer f l
-  unfolding check_answer codes
-  check_accepted a {s} {i} p q =
-      let c : s.count ≡ length (records f) = (own_count f p).0 in
-      let n : i.corrections ≡ correction_count (read_log l (length (records f))) =
-      ap (λ (x : Index). x.corrections) q ∙ count_said (read_log l s.count) ∙ ap (λ (k : ℕ). correction_count (read_log l k)) c in
-      rw (sym e ∙ a, c, n)
+  module _ (a : v ≡ Accepted) {s : Sources} (p : s ≡ sources_of f) where
+    beside : s.count ≡ length (records f)
+    beside = (own_count f p).0
+
+    pub check_accepted : {i : Index} → index_of (read_log l s.count) ≡ Ok i → count_line (codes "ok") s.count i.corrections ≡ check_answer f l
+    unfolding check_answer
+    check_accepted {i} q =
+        let n : i.corrections ≡ correction_count (read_log l (length (records f))) = count_said (read_log l s.count) q ∙ ap (λ (k : ℕ). correction_count (read_log l k)) beside in
+        rw (sym e ∙ a, beside, n)
+
+    -- a log that is accepted over the file is read
+    pub check_read : {r : Refusal} → index_of (read_log l s.count) ≡ Err r → no_line r ≡ check_answer f l
+    check_read {r} q =
+        let legal : LegalLog l (length (records f)) = ((log_runs f l).0 (sym e ∙ a)).1 in
+        let fine : IsOk (index_of (read_log l (length (records f)))) = (accepted_iff l (length (records f))).1 legal in
+        let unread : Result Index Refusal = Err r in
+        let never_read : IsOk unread = subst IsOk (ap (λ (k : ℕ). index_of (read_log l k)) (sym beside) ∙ q) fine in
+        absurd (false≢true never_read)
 
   pub check_refused : {r : Refusal} → v ≡ Refused r → no_line r ≡ check_answer f l
   unfolding check_answer

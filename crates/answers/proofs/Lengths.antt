@@ -22,8 +22,8 @@ use Rattle.wanted.specs.Numbers.{numbers_in}
 use Rattle.routes.specs.Places.{key_of, Every}
 use Rattle.routes.specs.Sources.{record_at, records}
 use Rattle.routes.proofs.Lines.{length_lines}
-use Rattle.applying.specs.Correct.{Outcome, stopped, reached}
-use Rattle.selection.specs.Failing.{failure_as, settled_of}
+use Rattle.applying.specs.Correct.{Outcome, stopped, reached, fault_as}
+use Rattle.selection.specs.Failing.{failure_with, settled_of}
 use Rattle.selection.specs.Pick.{members_from, picked, pick_of, Pick, refused_by, new_bytes, new_records, log_verdict, line_in}
 use Rattle.selection.specs.Reasons.{Reason, relying_of, relying_source, reasons_of}
 use Rattle.selection.specs.declared.Failure.{Failure}
@@ -207,9 +207,9 @@ length-in_text first r =
       (decimal_width r.column).1,
     )
 
-length-more_text : (f l : List ℕ) (r : Refusal) (x : Failure) → length (more_text f l r x) ≤ 300
+length-more_text : (f l : List ℕ) (x : Failure) → length (more_text f l x) ≤ 300
 unfolding more_text route_text
-length-more_text f l r x = by (eqb r.number 10) (eqb r.number 11)
+length-more_text f l x = by (eqb x.refusal.number 10) (eqb x.refusal.number 11)
   where
     own : List ℕ
     own = line_in f l x.fault.route x.fault.inner.place
@@ -217,7 +217,7 @@ length-more_text f l r x = by (eqb r.number 10) (eqb r.number 11)
     first : List ℕ
     first = line_in f l x.fault.route 1
 
-    by : (a b : Bool) → length (cond a (line_text x.line) (cond b (in_text first x.fault.inner ++ record_line own) (record_line (frozen_record f r)))) ≤ 300
+    by : (a b : Bool) → length (cond a (line_text x.line) (cond b (in_text first x.fault.inner ++ record_line own) (record_line (frozen_record f x.refusal)))) ≤ 300
     by true b = omega (arith, length-line_text x.line)
     by false true =
         omega (
@@ -226,7 +226,7 @@ length-more_text f l r x = by (eqb r.number 10) (eqb r.number 11)
           length-in_text first x.fault.inner,
           length-record_line own (line_few f l x.fault.route x.fault.inner.place),
         )
-    by false false = omega (arith, length-record_line (frozen_record f r) (more_few f r))
+    by false false = omega (arith, length-record_line (frozen_record f x.refusal) (more_few f x.refusal))
 
 -- So `why` answers in at most 8,600 bytes.
 pub why_fits : (frozen log want : List ℕ) → length (why_answer frozen log want) ≤ 8600
@@ -234,7 +234,9 @@ unfolding why_answer why_text
 why_fits f l want = by (settled_of f l (numbers_in 200 want)) (reasons_of f l (numbers_in 200 want)) (few_reasons f l (numbers_in 200 want))
   where
     by : (o : Outcome) (rs : List Reason) → (length rs ≤ 200) × Every Small rs → length (why_text f l o rs) ≤ 8600
-    by (stopped r w) rs h = omega (arith, length-append (no_line r) (more_text f l r (failure_as l (stopped r w))), no_length r, length-more_text f l r (failure_as l (stopped r w)))
+    by (stopped r w) rs h =
+        let x : Failure = failure_with l r (fault_as w) in
+        omega (arith, length-append (no_line r) (more_text f l x), no_length r, length-more_text f l x)
     by (reached xs) rs h = omega (arith, length-reason_lines f l rs h.1, h.0)
 
 -- ---- so an answer is whole, or there is none

@@ -1,6 +1,6 @@
 -- Laws of the lines of `why`: put together from their pieces, and what the code has of them is what the definitions say.
 -- Assumes nothing.
-use Rattle.refusals.specs.Table.{Verdict, Accepted, Refused}
+use Rattle.std.specs.Prelude.{Result, Ok, Err, IfOk}
 use mathlib.Core.Path.{◌≡◌, refl, sym, ap, ap₂, subst, ◌∙◌}
 use mathlib.Core.Bool.{Bool, true, false, cond, ◌&&◌}
 use mathlib.Core.List.{List, [], ◌∷◌, ◌++◌, map, append-nil, append_assoc}
@@ -22,14 +22,14 @@ use Rattle.routes.specs.declared.Sources.{Sources}
 use Rattle.applying.specs.Correct.{Outcome, stopped, reached}
 use Rattle.applying.specs.declared.Fault.{Fault}
 use Rattle.wanted.specs.Numbers.{numbers_in}
-use Rattle.selection.specs.Failing.{failure_as, settled_of}
+use Rattle.selection.specs.Failing.{settled_of}
 use Rattle.selection.specs.Pick.{line_in}
 use Rattle.selection.specs.Reasons.{Reason, relying_of, relying_source, reasons_of, reasons_with, reasons_as}
 use Rattle.selection.specs.declared.Explained.{Explained}
 use Rattle.selection.specs.declared.Failure.{Failure}
 use Rattle.selection.proofs.Because.{few_reasons}
 use Rattle.answers.specs.Answers.{tabbed, no_line}
-use Rattle.answers.specs.Why.{reason_line, reason_lines, record_line, frozen_record, line_text, in_text, route_text, more_text, why_text, why_answer, explained_lines, by_verdict, explained_text}
+use Rattle.answers.specs.Why.{reason_line, reason_lines, record_line, frozen_record, line_text, in_text, route_text, more_text, why_text, why_answer, explained_lines, explained_text}
 use Rattle.answers.specs.Written.{Wrote}
 use Rattle.answers.proofs.WroteLaws.{wrote_nothing, wrote_then}
 
@@ -152,18 +152,19 @@ module _ (f l : List ℕ) where
   unfolding route_text
   route_wrote z p q v w = rw (← p, ← q) (wrote_then v w)
 
-  module _ (r : Refusal) (x : Failure) {a b : List ℕ} {at i : ℕ} where
-    pub more_line : r.number ≡ 10 → Wrote a b at (line_text x.line) i → Wrote a b at (more_text f l r x) i
+  module _ (x : Failure) {a b : List ℕ} {at i : ℕ} where
+    pub more_line : x.refusal.number ≡ 10 → Wrote a b at (line_text x.line) i → Wrote a b at (more_text f l x) i
     unfolding more_text
-    more_line e w = rw (eq-eqb r.number 10 e) w
+    more_line e w = rw (eq-eqb x.refusal.number 10 e) w
 
-    pub more_route : (r.number ≡ 10 → ⊥) → r.number ≡ 11 → Wrote a b at (route_text f l x.fault) i → Wrote a b at (more_text f l r x) i
+    pub more_route : (x.refusal.number ≡ 10 → ⊥) → x.refusal.number ≡ 11 → Wrote a b at (route_text f l x.fault) i → Wrote a b at (more_text f l x) i
     unfolding more_text
-    more_route n e w = rw (ne_eqb r.number 10 n, eq-eqb r.number 11 e) w
+    more_route n e w = rw (ne_eqb x.refusal.number 10 n, eq-eqb x.refusal.number 11 e) w
 
-    pub more_record : (r.number ≡ 10 → ⊥) → (r.number ≡ 11 → ⊥) → {rec : List ℕ} → rec ≡ frozen_record f r → Wrote a b at (record_line rec) i → Wrote a b at (more_text f l r x) i
+    pub more_record : (x.refusal.number ≡ 10 → ⊥) → (x.refusal.number ≡ 11 → ⊥) → {rec : List ℕ} → rec ≡ frozen_record f x.refusal → Wrote a b at (record_line rec) i
+        → Wrote a b at (more_text f l x) i
     unfolding more_text
-    more_record n m e w = rw (ne_eqb r.number 10 n, ne_eqb r.number 11 m, ← e) w
+    more_record n m e w = rw (ne_eqb x.refusal.number 10 n, ne_eqb x.refusal.number 11 m, ← e) w
 
   -- ---- the lines of the first corrections
 
@@ -176,14 +177,13 @@ module _ (f l : List ℕ) where
   unfolding explained_lines
   lines_next e i v q w = let s : i + 1 ≡ suc i = omega arith in rw (s, ← q) (wrote_then v w)
 
-  pub reasons_wrote : (e : Explained) {a b : List ℕ} {k : ℕ} → e.failure.verdict ≡ Accepted → Wrote a b 0 (explained_lines f l e e.count) k → Wrote a b 0 (explained_text f l e) k
+  pub reasons_wrote : (e : Explained) {a b : List ℕ} {k : ℕ} → Wrote a b 0 (explained_lines f l e e.count) k → Wrote a b 0 (explained_text f l (Ok e)) k
   unfolding explained_text
-  reasons_wrote e {a} {b} {k} q w = subst (λ (v : Verdict). Wrote a b 0 (by_verdict f l v e) k) (sym q) w
+  reasons_wrote e w = w
 
-  pub refusal_wrote : (e : Explained) {r : Refusal} {a b c : List ℕ} {i k : ℕ} → e.failure.verdict ≡ Refused r → Wrote a b 0 (no_line r) i → Wrote b c i (more_text f l r e.failure) k
-      → Wrote a c 0 (explained_text f l e) k
+  pub refusal_wrote : (x : Failure) {a b c : List ℕ} {i k : ℕ} → Wrote a b 0 (no_line x.refusal) i → Wrote b c i (more_text f l x) k → Wrote a c 0 (explained_text f l (Err x)) k
   unfolding explained_text
-  refusal_wrote e {a = a} {c = c} {k = k} q v w = subst (λ (x : Verdict). Wrote a c 0 (by_verdict f l x e) k) (sym q) (wrote_then v w)
+  refusal_wrote x v w = wrote_then v w
 
   -- ---- what the code has is what the definition says
 
@@ -202,31 +202,35 @@ module _ (f l : List ℕ) where
       let own : List ℕ = reason_line r.correction (relying_of r) (record_at f l (relying_source r)) in
       ap (λ (x : List ℕ). own ++ x) (lines_append rs qs) ∙ sym (append_assoc own (reason_lines f l rs) (reason_lines f l qs))
 
-  first_lines : (failure : Failure) (rs : List Reason) (n : ℕ) → n ≤ length rs → explained_lines f l (reasons_with failure rs) n ≡ reason_lines f l (take n rs)
+  first_lines : (rs : List Reason) (n : ℕ) → n ≤ length rs → explained_lines f l (reasons_with rs) n ≡ reason_lines f l (take n rs)
   unfolding explained_lines reason_lines reasons_with
-  first_lines failure rs zero h = refl
-  first_lines failure rs (suc n) h =
+  first_lines rs zero h = refl
+  first_lines rs (suc n) h =
       let r : Reason = get_or rs n no_reason in
       let own : List ℕ = reason_line r.correction (relying_of r) (record_at f l (relying_source r)) in
       let q : reason_line (get_or (padded 200 (map (λ (x : Reason). x.correction) rs)) n 0) (get_or (padded 200 (map relying_of rs)) n 0) (record_at f l (get_or (padded 200 (map relying_source rs)) n 0)) ≡ own =
       rw (column_at (λ (x : Reason). x.correction) rs n refl (omega arith), column_at relying_of rs n refl (omega arith), column_at relying_source rs n refl (omega arith)) in
-      ap₂ (λ (x y : List ℕ). x ++ y) (first_lines failure rs n (omega arith)) (q ∙ sym (append-nil own))
+      ap₂ (λ (x y : List ℕ). x ++ y) (first_lines rs n (omega arith)) (q ∙ sym (append-nil own))
       ∙ sym (lines_append (take n rs) (r ∷ [])) ∙ ap (reason_lines f l) (sym (take-suc rs n no_reason (omega arith)))
 
-  all_lines : (failure : Failure) (rs : List Reason) → explained_lines f l (reasons_with failure rs) (length rs) ≡ reason_lines f l rs
-  all_lines failure rs = first_lines failure rs (length rs) (omega arith) ∙ ap (reason_lines f l) (take_all (length rs) rs (omega arith))
+  all_lines : (rs : List Reason) → explained_lines f l (reasons_with rs) (length rs) ≡ reason_lines f l rs
+  all_lines rs = first_lines rs (length rs) (omega arith) ∙ ap (reason_lines f l) (take_all (length rs) rs (omega arith))
 
   same_text : (o : Outcome) (rs : List Reason) → explained_text f l (reasons_as l o rs) ≡ why_text f l o rs
-  unfolding explained_text why_text reasons_with failure_as
+  unfolding explained_text why_text reasons_with reasons_as
   same_text (stopped r w) rs = refl
-  same_text (reached xs) rs = all_lines (failure_as l (reached xs)) rs
+  same_text (reached xs) rs = all_lines rs
 
-  pub why_text_lem : (want ws : List ℕ) → ws ≡ numbers_in 200 want → {e : Explained} → e ≡ reasons_as l (settled_of f l ws) (reasons_of f l ws) → explained_text f l e ≡ why_answer f l want
+  pub why_text_lem : (want ws : List ℕ) → ws ≡ numbers_in 200 want → {e : Result Explained Failure} → e ≡ reasons_as l (settled_of f l ws) (reasons_of f l ws) → explained_text f l e ≡ why_answer f l want
   unfolding why_answer
   why_text_lem want ws q p =
       ap (explained_text f l) p ∙ same_text (settled_of f l ws) (reasons_of f l ws) ∙ ap (λ (ns : List ℕ). why_text f l (settled_of f l ns) (reasons_of f l ns)) q
 
 -- no more than 200
-pub explained_few : (f l ws : List ℕ) {e : Explained} → e ≡ reasons_as l (settled_of f l ws) (reasons_of f l ws) → e.count ≤ 200
-unfolding reasons_with
-explained_few f l ws p = subst (λ (x : Explained). x.count ≤ 200) (sym p) (few_reasons f l ws).0
+pub explained_few : (f l ws : List ℕ) {e : Result Explained Failure} → e ≡ reasons_as l (settled_of f l ws) (reasons_of f l ws) → IfOk e (λ x. x.count ≤ 200)
+unfolding reasons_as reasons_with
+explained_few f l ws p = subst (λ (x : Result Explained Failure). IfOk x (λ y. y.count ≤ 200)) (sym p) (by (settled_of f l ws) (reasons_of f l ws) (few_reasons f l ws).0)
+  where
+    by : (o : Outcome) (rs : List Reason) → length rs ≤ 200 → IfOk (reasons_as l o rs) (λ y. y.count ≤ 200)
+    by (stopped r w) rs h = tt
+    by (reached xs) rs h = h

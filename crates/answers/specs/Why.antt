@@ -1,15 +1,14 @@
 -- What `why` prints, byte for byte: a line for each correction taken; or a refusal's line, and what more is known of it.
 -- Assumes nothing.
-use Rattle.refusals.specs.Table.{Verdict}
-use Rattle.std.specs.Prelude.{ℕ, zero, suc, ◌-◌, ◌*◌, cond, ◌&&◌, List, [], ◌∷◌, ◌++◌, eqb, leb, ltb, get_or, take, drop, Ok, Err}
+use Rattle.std.specs.Prelude.{ℕ, zero, suc, ◌-◌, ◌*◌, cond, ◌&&◌, List, [], ◌∷◌, ◌++◌, eqb, leb, ltb, get_or, take, drop, Result, Ok, Err}
 use Rattle.columns.specs.Patterns.{codes}
 use Rattle.refusals.specs.declared.Refusal.{Refusal}
 use Rattle.routes.specs.Places.{key_of}
 use Rattle.routes.specs.Sources.{record_at}
-use Rattle.applying.specs.Correct.{Outcome, stopped, reached}
+use Rattle.applying.specs.Correct.{Outcome, stopped, reached, fault_as}
 use Rattle.applying.specs.declared.Fault.{Fault}
 use Rattle.wanted.specs.Numbers.{numbers_in}
-use Rattle.selection.specs.Failing.{failure_as, settled_of}
+use Rattle.selection.specs.Failing.{failure_with, settled_of}
 use Rattle.selection.specs.Pick.{line_in}
 use Rattle.selection.specs.Reasons.{Reason, relying_of, relying_source, reasons_of}
 use Rattle.selection.specs.declared.Explained.{Explained}
@@ -54,15 +53,15 @@ module _ (frozen log : List ℕ) where
   route_text fault = in_text (line_in frozen log fault.route 1) fault.inner ++ record_line (line_in frozen log fault.route fault.inner.place)
 
   -- for 10 the line, for 11 the route, else the record of the frozen file
-  unfoldable pub more_text : Refusal → Failure → List ℕ
-  more_text r failure =
-      cond (eqb r.number 10) (line_text failure.line)
-      (cond (eqb r.number 11) (route_text failure.fault) (record_line (frozen_record frozen r)))
+  unfoldable pub more_text : Failure → List ℕ
+  more_text failure =
+      cond (eqb failure.refusal.number 10) (line_text failure.line)
+      (cond (eqb failure.refusal.number 11) (route_text failure.fault) (record_line (frozen_record frozen failure.refusal)))
 
   -- ---- the program
 
   unfoldable pub why_text : Outcome → List Reason → List ℕ
-  why_text (stopped r w) rs = no_line r ++ more_text r (failure_as log (stopped r w))
+  why_text (stopped r w) rs = no_line r ++ more_text (failure_with log r (fault_as w))
   why_text (reached xs) rs = reason_lines frozen log rs
 
 unfoldable pub why_answer : (frozen log want : List ℕ) → List ℕ
@@ -77,9 +76,6 @@ module _ (frozen log : List ℕ) where
   explained_lines e (suc n) =
       explained_lines e n ++ reason_line (get_or e.taken n 0) (get_or e.relying n 0) (record_at frozen log (get_or e.source n 0))
 
-  abbrev pub by_verdict : Verdict → Explained → List ℕ
-  by_verdict (Ok _) e = explained_lines e e.count
-  by_verdict (Err r) e = no_line r ++ more_text frozen log r e.failure
-
-  unfoldable pub explained_text : Explained → List ℕ
-  explained_text e = by_verdict e.failure.verdict e
+  unfoldable pub explained_text : Result Explained Failure → List ℕ
+  explained_text (Ok e) = explained_lines e e.count
+  explained_text (Err x) = no_line x.refusal ++ more_text frozen log x

@@ -6,8 +6,9 @@ mod pieces;
 mod texts;
 mod whys;
 
-ghost use Rattle.std.specs.Prelude.{◌≡◌, length, replicate};
-ghost use Rattle.answers.specs.Answers.{pick_answer, newfile_answer, check_answer, too_short, Leaves};
+ghost use Rattle.std.specs.Prelude.{◌≡◌, length, replicate, MatchResult};
+ghost use Rattle.columns.specs.Patterns.{codes};
+ghost use Rattle.answers.specs.Answers.{pick_answer, newfile_answer, check_answer, too_short, Leaves, no_line, count_line};
 ghost use Rattle.answers.specs.Why.{why_answer};
 
 use corrections::{LONGEST_LOG, MOST_CORRECTIONS};
@@ -75,6 +76,17 @@ pub fn newfile_answer<'a>(frozen: &'a [u8], log: &'a [u8], want: &[u8], out: &mu
     }
 }
 
+// How many frozen records and how many corrections there are, or the refusal.
+fn counts<'a>(frozen: &'a [u8], log: &'a [u8]) -> Result<(usize, usize), Refusal>
+    ensures { MatchResult result (λ n. count_line (codes "ok") n.0 n.1 ≡ check_answer frozen.now log.now)
+        (λ r. no_line r ≡ check_answer frozen.now log.now) }
+{
+    selection::check_log(frozen, log)?;
+    let records = routes::sources_of(frozen).count;
+    let index = corrections::index_of(log, records)?;
+    Ok((records, index.corrections))
+}
+
 // What `check` prints: how many frozen records and how many corrections there are, or the refusal. Zeros past it.
 pub fn check_answer<'a>(frozen: &'a [u8], log: &'a [u8], out: &mut [u8]) -> Answer
     ensures { Leaves 66 out.old out.new (check_answer frozen.now log.now) result }
@@ -83,10 +95,8 @@ pub fn check_answer<'a>(frozen: &'a [u8], log: &'a [u8], out: &mut [u8]) -> Answ
         return too_short(out);
     }
     slices::clear(out);
-    match selection::check_log(frozen, log) {
-        Ok(()) => {
-            let records = routes::sources_of(frozen).count;
-            let corrections = corrections::index_of(log, records).corrections;
+    match counts(frozen, log) {
+        Ok((records, corrections)) => {
             Ok(put_counts(b"ok", records, corrections, out))
         }
         Err(r) => Ok(put_no(r, out)),

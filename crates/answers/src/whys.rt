@@ -1,13 +1,13 @@
 // The lines of `why`: why each correction is taken; or a refusal, and what more is known of it. Assumes of its callers, all in this crate, that
 // no more than 200 corrections are taken.
-ghost use Rattle.std.specs.Prelude.{◌≡◌, ◌+◌, ◌≤◌, length};
+ghost use Rattle.std.specs.Prelude.{◌≡◌, ◌+◌, ◌≤◌, length, IfOk};
 ghost use Rattle.answers.specs.Why.{reason_line, record_line, frozen_record, line_text, in_text, route_text, more_text, explained_lines, explained_text};
 ghost use Rattle.answers.specs.Written.{Wrote};
 
 use crate::pieces::{put_key, put_tabbed, put_word};
 use crate::texts::put_no;
 use applying::Fault;
-use refusals::{MOST_RECORDS, Refusal, Verdict};
+use refusals::{MOST_RECORDS, Refusal};
 use routes::{LINE_WIDTH, RECORD_WIDTH, record_at};
 use selection::{Explained, Failure, line_in};
 use slices::least;
@@ -118,15 +118,14 @@ fn put_route<'a>(frozen: &'a [u8], log: &'a [u8], fault: Fault, out: &mut [u8], 
 fn put_more<'a>(
     frozen: &'a [u8],
     log: &'a [u8],
-    refusal: Refusal,
     failure: Failure,
     out: &mut [u8],
     at: usize,
 ) -> usize
     requires { at ≤ 1000 }
-    ensures { Wrote out.old out.new at (more_text frozen.now log.now refusal failure) result }
+    ensures { Wrote out.old out.new at (more_text frozen.now log.now failure) result }
 {
-    let number = refusal.number;
+    let number = failure.refusal.number;
     if number == Refusal::DOES_NOT_APPLY {
         return put_line(failure.line, out, at);
     }
@@ -134,7 +133,7 @@ fn put_more<'a>(
         let fault = failure.fault;
         return put_route(frozen, log, fault, out, at);
     }
-    let rec = frozen_record(frozen, refusal);
+    let rec = frozen_record(frozen, failure.refusal);
     put_record(rec, out, at)
 }
 
@@ -142,19 +141,17 @@ fn put_more<'a>(
 pub(crate) fn put_explained<'a>(
     frozen: &'a [u8],
     log: &'a [u8],
-    explained: Explained,
+    explained: Result<Explained, Failure>,
     out: &mut [u8],
 ) -> usize
-    requires { explained.count ≤ 200 }
+    requires { IfOk explained (λ e. e.count ≤ 200) }
     ensures { Wrote out.old out.new 0 (explained_text frozen.now log.now explained) result }
 {
-    let failure = explained.failure;
-    let verdict = failure.verdict;
-    match verdict {
-        Ok(()) => put_reasons(frozen, log, explained, out),
-        Err(r) => {
-            let end = put_no(r, out);
-            put_more(frozen, log, r, failure, out, end)
+    match explained {
+        Ok(explained) => put_reasons(frozen, log, explained, out),
+        Err(failure) => {
+            let end = put_no(failure.refusal, out);
+            put_more(frozen, log, failure, out, end)
         }
     }
 }

@@ -2,7 +2,7 @@
 -- does. Each is proved in the crate that it speaks of, or in OrderLaws; here they stand side by side. That every function ends on every input, and leaves in every byte what its
 -- contract says, is what the check of its contract means.
 -- Assumes nothing.
-use Rattle.std.specs.Prelude.{Ok, Err}
+use Rattle.std.specs.Prelude.{Ok, Err, IsOk}
 use mathlib.Core.Path.{◌≡◌}
 use mathlib.Core.List.{List, [], ◌∷◌, ◌++◌, Memᴰ}
 use mathlib.Core.Logic.{◌↔◌, ◌⊎◌}
@@ -35,7 +35,8 @@ use Rattle.routes.specs.Stages.{nothing}
 use Rattle.routes.specs.Walk.{walk_from}
 use Rattle.routes.proofs.Legality as routes
 use Rattle.routes.proofs.FirstLaws.{walk_refuses}
-use Rattle.corrections.specs.Reading.{Entry, refused, said, read_log, index_of}
+use Rattle.corrections.specs.declared.Entry.{Entry}
+use Rattle.corrections.specs.Reading.{refused, said, read_log, index_of}
 use Rattle.corrections.specs.Text.{LegalLog, GoesWrong, RefusedLog}
 use Rattle.corrections.proofs.Legality as corrections
 use Rattle.corrections.proofs.Wrong.{refused_iff, one_place}
@@ -46,7 +47,7 @@ use Rattle.applying.specs.Run.{by_correction}
 use Rattle.applying.specs.Procedures.{procedures, log_of}
 use Rattle.applying.specs.Origin.{lines_taken, HandedBack}
 use Rattle.applying.specs.Correct.{Wrong, stopped}
-use Rattle.selection.specs.Failing.{failure_as, failure_of, settled_of}
+use Rattle.selection.specs.Failing.{failure_as, failure_of, verdict_of, settled_of}
 use Rattle.selection.specs.Reasons.{reasons_of}
 use Rattle.selection.specs.Pick.{wanted_stage, everything, refused_by, picked, outcome_verdict, carried, log_verdict, pick_of, new_bytes, file_pick}
 use Rattle.selection.specs.Demand.{Demanded, Told, AllExplained}
@@ -150,7 +151,7 @@ pub record_accepted : (s : List ℕ) → (verdict_of (reading_of s) ≡ Accepted
 record_accepted = parts.reading_iff
 
 -- A log's text, beside so many frozen records, is accepted exactly when it is what paper 01 describes.
-pub text_accepted : (log : List ℕ) (frozen : ℕ) → ((index_of (read_log log frozen)).verdict ≡ Accepted) ↔ LegalLog log frozen
+pub text_accepted : (log : List ℕ) (frozen : ℕ) → IsOk (index_of (read_log log frozen)) ↔ LegalLog log frozen
 text_accepted = corrections.accepted_iff
 
 -- "A log is only accepted with its frozen file": where that is accepted, the text is legal beside it, and its corrections run over its records.
@@ -226,7 +227,7 @@ reasons_refused = refused_unexplained
 
 -- Where a log fails. The verdict is that of the log's check; and what is told beside it is so of the first correction that fails: the line that
 -- can't be applied, or the route that is refused, by the refusal of its records alone.
-pub failing_verdict : (frozen log : List ℕ) → (failure_of frozen log).verdict ≡ log_verdict frozen log
+pub failing_verdict : (frozen log : List ℕ) → verdict_of (failure_of frozen log) ≡ log_verdict frozen log
 failing_verdict = same_verdict
 
 pub failing_told : (frozen log : List ℕ) (r : Refusal) → log_verdict frozen log ≡ Refused r

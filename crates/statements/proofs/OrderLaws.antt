@@ -38,7 +38,8 @@ use Rattle.routes.specs.Files.{file_verdict}
 use Rattle.routes.specs.Sources.{in_use, sources_of}
 use Rattle.routes.proofs.InTurnLaws as turns
 use Rattle.routes.proofs.FirstLaws.{first_iff, file_refuses}
-use Rattle.corrections.specs.Reading.{Entry, Reading, refused, said}
+use Rattle.corrections.specs.declared.Entry.{Entry}
+use Rattle.corrections.specs.Reading.{Reading, refused, said}
 use Rattle.applying.specs.Apply.{lines_applied, fails_at, touched_judged, refused_route}
 use Rattle.applying.specs.Correct.{Outcome, stopped, reached, corrected, corrected_by, after_lines, after_judging}
 use Rattle.applying.specs.Run.{by_correction, ran, ran_by, onward}

@@ -21,7 +21,8 @@ use Rattle.routes.specs.Files.{size_stage, tail_stage}
 use Rattle.routes.specs.Sources.{records, behind_records}
 use Rattle.routes.specs.Stages.{nothing}
 use Rattle.routes.specs.Walk.{walk_from, finished}
-use Rattle.corrections.specs.Reading.{Entry, Reading, refused, said, read_log}
+use Rattle.corrections.specs.declared.Entry.{Entry}
+use Rattle.corrections.specs.Reading.{Reading, refused, said, read_log}
 use Rattle.applying.specs.Apply.{lines_applied, touched_judged}
 use Rattle.selection.specs.Pick.{length_stage, wanted_stage, everything, outcome_verdict, carried}
 

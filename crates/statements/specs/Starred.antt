@@ -3,7 +3,7 @@
 -- a row means is said by the definitions that the contracts of `parts::read`, `routes::check`, `selection::pick`, `reasons` and `failing` cite:
 -- `reading_of`, `file_verdict`, `pick_of`, `reasons_of` and `failure_of`. That every row is met is `cases`, in proofs/Starred.
 -- Assumes nothing.
-use Rattle.std.specs.Prelude.{◌≡◌, List, [], ◌∷◌, ◌++◌, map, ℕ, ℤ, negsuc, length, Option as Optional, Some, Ok, Err}
+use Rattle.std.specs.Prelude.{◌≡◌, List, [], ◌∷◌, ◌++◌, map, ℕ, ℤ, negsuc, length, Result, Option as Optional, Some, Ok, Err}
 use Rattle.std.proofs.Math.Option
 use Rattle.std.proofs.Math.Option.{Option, none, some, bind}
 use Prim.Native.String.{String}
@@ -21,7 +21,7 @@ use Rattle.fields.specs.declared.quantities.Distance.TheVariants.{Minutes}
 use Rattle.routes.specs.Files.{file_verdict}
 use Rattle.routes.specs.Legal.{lines}
 use Rattle.routes.specs.Places.{key_of}
-use Rattle.corrections.specs.Reading.{Entry}
+use Rattle.corrections.specs.declared.Entry.{Entry}
 use Rattle.applying.specs.Apply.{record_of_line}
 use Rattle.selection.specs.Failing.{failure_of}
 use Rattle.selection.specs.Pick.{Pick, refused_by, picked, line_in, pick_of}
@@ -99,9 +99,10 @@ line_read frozen log p (some e) = taken_for p e.correction (key_of (record_of_li
 abbrev pub reason_read : (frozen log : List ℕ) → Reason → Why
 reason_read frozen log r = line_read frozen log r.correction r.line
 
-abbrev pub FailsAt : (frozen log : List ℕ) → Failure → Where → Type 0
-FailsAt frozen log f (at_line n) = f.line ≡ n
-FailsAt frozen log f (in_route route number place column) =
+abbrev pub FailsAt : (frozen log : List ℕ) → Result (Unit {0}) Failure → Where → Type 0
+FailsAt frozen log (Ok _) w = ⊥
+FailsAt frozen log (Err f) (at_line n) = f.line ≡ n
+FailsAt frozen log (Err f) (in_route route number place column) =
     (f.fault.inner ≡ refusal number place column) × (key_of (line_in frozen log f.fault.route 1) ≡ route)
 
 abbrev pub Meets : Row → Type 0

@@ -33,6 +33,7 @@
 
 ghost use Rattle.std.specs.Prelude.{◌≤◌, ◌<◌, ◌≡◌, length, IfOk};
 
+use applying::Fault;
 use refusals::{Refusal, Verdict};
 use routes::Sources;
 use selection::{Explained, Failure, Picked};
@@ -116,6 +117,33 @@ fn answer_sum(picked: Picked) -> u64 {
     with_sources(with_numbers(rolled(0, picked.count as u64), taken), records)
 }
 
+// What is printed and summed of a log that does not fail, and where there are no reasons: a case has the same columns either way.
+const NO_FAILURE: Failure = Failure {
+    refusal: NO_REFUSAL,
+    line: 0,
+    fault: Fault {
+        at: 0,
+        route: Sources {
+            count: 0,
+            at: [0; 480],
+        },
+        inner: NO_REFUSAL,
+    },
+};
+
+const NO_REFUSAL: Refusal = Refusal {
+    number: 0,
+    place: 0,
+    column: 0,
+};
+
+const NO_REASONS: Explained = Explained {
+    count: 0,
+    taken: [0; 200],
+    relying: [0; 200],
+    source: [0; 200],
+};
+
 // The check sum of all that is said to be wrong.
 fn failure_sum(failure: Failure) -> u64 {
     let fault = failure.fault;
@@ -127,12 +155,18 @@ fn failure_sum(failure: Failure) -> u64 {
     with_sources(refusal, route)
 }
 
-fn explained_sum(explained: Explained) -> u64 {
-    let failure = explained.failure;
+fn explained_sum(explained: Result<Explained, Failure>) -> u64 {
+    match explained {
+        Ok(explained) => reasons_sum(failure_sum(NO_FAILURE), explained),
+        Err(failure) => reasons_sum(failure_sum(failure), NO_REASONS),
+    }
+}
+
+fn reasons_sum(rolling: u64, explained: Explained) -> u64 {
     let taken = explained.taken;
     let relying = explained.relying;
     let source = explained.source;
-    let count = rolled(failure_sum(failure), explained.count as u64);
+    let count = rolled(rolling, explained.count as u64);
     with_numbers(with_numbers(with_numbers(count, taken), relying), source)
 }
 
@@ -211,16 +245,14 @@ fn print_reasons(to: &mut impl Write, explained: Explained, n: usize) -> io::Res
     Ok(())
 }
 
-fn print_explained(to: &mut impl Write, explained: Explained) -> io::Result<()> {
-    let failure = explained.failure;
-    let verdict = failure.verdict;
-    print_verdict(to, verdict)?;
-    match verdict {
-        Ok(()) => {
+fn print_explained(to: &mut impl Write, explained: Result<Explained, Failure>) -> io::Result<()> {
+    match explained {
+        Ok(explained) => {
+            print_verdict(to, Ok(()))?;
             print_number(to, explained.count as u64)?;
             print_reasons(to, explained, explained.count)
         }
-        Err(_) => Ok(()),
+        Err(failure) => print_verdict(to, Err(failure.refusal)),
     }
 }
 
@@ -289,7 +321,7 @@ fn print_case<'a>(
     print_number(to, number as u64)?;
     print_verdict(to, selection::check_log(frozen, log))?;
     print(to, b"\nfails")?;
-    let failure = selection::failing(frozen, log);
+    let failure = selection::failing(frozen, log).err().unwrap_or(NO_FAILURE);
     print_failure(to, failure)?;
     print(to, b"\npick")?;
     let picked = selection::pick(frozen, log, wanted);
