@@ -34,11 +34,6 @@ unfolding in_turn
 in_turn_cons (Ok _) vs = alone (in_turn vs)
 in_turn_cons (Err r) vs = refl
 
--- four, as the code takes them
-pub four_in_turn : (t u v w : Verdict) {x y r : Verdict} → x ≡ in_turn (v ∷ w ∷ []) → y ≡ in_turn (u ∷ x ∷ []) → r ≡ in_turn (t ∷ y ∷ [])
-    → r ≡ in_turn (t ∷ u ∷ v ∷ w ∷ [])
-four_in_turn t u v w p q e = e ∙ rw (q, p, in_turn_cons u (v ∷ w ∷ [])) (in_turn_cons t (u ∷ v ∷ w ∷ []))
-
 pub accepts_iff : (v : Verdict) (vs : List Verdict) → (in_turn (v ∷ vs) ≡ Accepted) ↔ ((v ≡ Accepted) × (in_turn vs ≡ Accepted))
 unfolding in_turn
 accepts_iff (Ok _) vs = (λ e. (refl, e), λ e. e.1)

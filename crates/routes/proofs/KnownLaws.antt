@@ -24,7 +24,7 @@ use Rattle.routes.specs.Stages.{Seen, nothing}
 use Rattle.routes.specs.Walk.{ends_route, stages_behind, judged_behind, judged_next, seen_with, walk_from, finished, walked}
 use Rattle.routes.specs.Known.{slot, knows, kept_if, learned, Known, judged_knowing, walk_knowing, walked_knowing}
 use Rattle.routes.specs.declared.Sources.{Sources}
-use Rattle.routes.proofs.InTurnLaws.{first_accepts, in_turn_cons}
+use Rattle.routes.proofs.InTurnLaws.{first_accepts}
 
 -- ---- the slot of a source
 
@@ -112,15 +112,6 @@ module _ (f l : List ℕ) where
         by (Err r) q = k
 
 -- ---- the walk that asks it
-
-pub judges_known : (s : Seen) (place : ℕ) (last : Bool) (rec : List ℕ) {b : Bool} → b ≡ true → judged_behind s place last rec ≡ judged_knowing b s place last rec
-unfolding judged_knowing
-judges_known s place last rec e = rw e
-
-pub judges_unknown : (s : Seen) (place : ℕ) (last : Bool) (rec : List ℕ) {b : Bool} {v : Verdict} → b ≡ false
-    → v ≡ in_turn (judged place rec ∷ judged_behind s place last rec ∷ []) → v ≡ judged_knowing b s place last rec
-unfolding judged_knowing judged_next judged_behind
-judges_unknown s place last rec e q = q ∙ rw e (in_turn_cons (judged place rec) (stages_behind s place last rec))
 
 module _ (f l : List ℕ) {known : List ℕ} (k : Known f l known) where
   -- one record, by whether the table knows it

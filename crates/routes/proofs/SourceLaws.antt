@@ -7,8 +7,9 @@ use native.Mathlib.Omega.{arith}
 use native.Mathlib.Numerals.{add-one}
 use native.Mathlib.Decide.{dec_lt}
 use lib.Dec.{eqb}
-use lib.ListN.{length, get_or, take, drop, set, replicate, length-take, length-drop, length-map, drop_of_length-le, get_or-eq_default}
-use lib.Seq.{set_at, append_snoc, take-nil, drop-nil, take_at, take-take, get_or-drop, get_or-take, drop-drop, drop-cons, take_all}
+use lib.ListN.{length, get_or, take, drop, set, replicate, length-take, length-drop, drop_of_length-le, get_or-eq_default}
+use lib.Seq.{set_at, append_snoc, take-nil, drop-nil, take_at, take-take, get_or-drop, drop-drop, take_all}
+use Rattle.std.proofs.lemmas.List.{drop-map}
 use borrow.Author.Tests.{le-leb, lt-leb, lt-ltb, le-ltb, eq-eqb, ne_eqb, eqb-true}
 use denote.Ref.{Bor}
 use Rattle.std.specs.Prelude.{Option, None, Some}
@@ -138,29 +139,10 @@ none_left f i e z = omega arith
 
 -- ---- a range of sources
 
--- of some sources those from i on up to another: none, or the one at i and those behind it
-module _ (sources : List ℕ) (i to : ℕ) where
-  pub none_of : min to (length sources) ≤ i → drop i (take to sources) ≡ []
-  none_of h = drop_of_length-le (take to sources) {i = i} (simp length-take (omega arith))
-
-  pub first_of : i < min to (length sources) → drop i (take to sources) ≡ get_or sources i 0 ∷ drop (i + 1) (take to sources)
-  first_of h =
-      let q : i < length (take to sources) = simp length-take (omega arith) in
-      rw (add-one, drop-cons (take to sources) i 0 q, get_or-take to sources i 0 (omega arith))
-
--- .. of those that count
-module _ (s : Sources) (long : length s.at ≡ 480) (to i : ℕ) where
-  pub range_end : min to (min s.count 480) ≤ i → sources_in s i to ≡ []
-  unfolding in_use
-  range_end h = none_of (take s.count s.at) i to (simp length-take (omega arith))
-
-  pub records_end : (f l : List ℕ) → min to (min s.count 480) ≤ i → records_in f l s i to ≡ []
-  unfolding records_in
-  records_end f l h = ap (map (record_at f l)) (range_end h)
-
-  pub range_next : i < min to (min s.count 480) → sources_in s i to ≡ get_or s.at i 0 ∷ sources_in s (i + 1) to
-  unfolding in_use
-  range_next h = rw (first_of (take s.count s.at) i to (simp length-take (omega arith)), get_or-take s.count s.at i 0 (omega arith))
+-- none of those that count is from i on up to another, where fewer are
+pub range_end : (s : Sources) → length s.at ≡ 480 → (to i : ℕ) → min to (min s.count 480) ≤ i → sources_in s i to ≡ []
+unfolding in_use
+range_end s long to i h = drop_of_length-le (take to (take s.count s.at)) {i = i} (simp (length-take, length-take) (omega arith))
 
 -- what is left of the first n, and the others behind them, are what is left of all
 pub rest_join : (i n : ℕ) (xs : List ℕ) → i ≤ n → drop i (take n xs) ++ drop n xs ≡ drop i xs
@@ -188,34 +170,12 @@ used_to s long to {end} e = by (dec_lt s.count to)
         ∙ sym (take_all to (take s.count s.at) (omega (arith, length-take s.count s.at)))
     by (no h) = take_least to s.at end (omega (arith, e, long)) ∙ sym (take-take to s.count s.at (omega arith))
 
--- nothing is between a place and itself
-pub range_none : (to : ℕ) (xs : List ℕ) → drop to (take to xs) ≡ []
-range_none to xs = none_of xs to to (omega arith)
-
 pub sources_start : record { count = 0; at = replicate 480 0 } ≡ sources_to 0
 unfolding sources_to sources_for starts
 sources_start = refl
 
 pub one_more : (i m n : ℕ) → m ≡ suc n → i + m ≡ i + 1 + n
 one_more i m n e = omega arith
-
--- ---- the last record of a range, and how many there are
-
-module _ (f l : List ℕ) (s : Sources) (long : length s.at ≡ 480) (from to : ℕ) where
-  pub length_range : length (records_in f l s from to) ≡ min to (min s.count 480) - from
-  unfolding records_in in_use
-  length_range = simp (length-map, length-drop, length-take) (omega arith)
-
-  pub last_range : from < min to (min s.count 480) → last (records_in f l s from to) ≡ record_at f l (get_or s.at (min to (min s.count 480) - 1) 0)
-  unfolding records_in in_use
-  last_range h =
-      let xs = drop from (take to (take s.count s.at)) in
-      let n : length xs ≡ min to (min s.count 480) - from = simp (length-drop, length-take) (omega arith) in
-      let k : from + (length xs - 1) ≡ min to (min s.count 480) - 1 = omega arith in
-      last_map (record_at f l) xs 0 (omega arith)
-      ∙ ap (record_at f l)
-      (get_or-drop from (take to (take s.count s.at)) (length xs - 1) 0
-      ∙ rw k (get_or-take to (take s.count s.at) _ 0 (omega arith) ∙ get_or-take s.count s.at _ 0 (omega arith)))
 
 -- ---- a file's own sources give its own records
 
@@ -283,11 +243,6 @@ beside f l at zero h = refl
 beside f l at (suc n) h =
     ap₂ (λ (r : List ℕ) (rs : List (List ℕ)). r ∷ rs) (sym (in_frozen_lem f l at (omega arith))) (beside f l (at + 133) n (omega arith))
 
-map-drop : (g : ℕ → List ℕ) (n : ℕ) (xs : List ℕ) → map g (drop n xs) ≡ drop n (map g xs)
-map-drop g zero xs = refl
-map-drop g (suc n) [] = refl
-map-drop g (suc n) (x ∷ xs) = map-drop g n xs
-
 -- the sources of a file's pieces: those of its records, and those behind them
 module _ (f : List ℕ) {n : ℕ} (e : n ≡ length f / 133) {count : ℕ} (c : count ≡ length (records f)) where
   pub fewer : count ≤ n
@@ -306,4 +261,4 @@ module _ (f : List ℕ) {n : ℕ} (e : n ≡ length f / 133) {count : ℕ} (c : 
 
     pub pieces_behind : map (record_at f f) (drop count (take n s.at)) ≡ behind_records f
     unfolding behind_records pieces
-    pieces_behind = rw (pieces_at, map-drop (record_at f f) count (starts 0 n), beside f f 0 n (omega arith), e, c)
+    pieces_behind = rw (pieces_at, ← drop-map (record_at f f) count (starts 0 n), beside f f 0 n (omega arith), e, c)

@@ -40,8 +40,8 @@ pub const LONGEST_FILE: usize = MOST_RECORDS * LINE_WIDTH;
 // From this number on a source is one of the log; below it, one of the frozen file.
 const FIRST_OF_LOG: u32 = 1000000;
 
-// Where records lie, at most 480 of them; zeros past the count. No slice and no list that grows in place of the two fields: this is the public
-// type that callers fill and read, and tests read its zeros.
+// Where records lie, at most 480 of them; zeros past the count. The count stays beside the array, since this is public: callers fill it with
+// anything, tests read the zeros, and there is no heap to lend a slice from.
 #[derive(Clone, Copy, Debug, PartialEq, Eq)]
 pub struct Sources {
     pub count: usize,
@@ -112,7 +112,9 @@ pub fn sources_of(file: &[u8]) -> Sources
 // Records that a table knows are not judged by themselves.
 fn walk<'a>(texts: Texts<'a>, known: &[u32], sources: &[u32], n: usize) -> Verdict
     requires { n ≤ length sources.now }
-    ensures { result ≡ walk_knowing known.now texts.entry.frozen.now texts.entry.log.now (records_at texts.entry.frozen.now texts.entry.log.now (drop n sources.now)) nothing 1 (take n sources.now) }
+    ensures { result
+        ≡ walk_knowing known.now texts.entry.frozen.now texts.entry.log.now (records_at texts.entry.frozen.now texts.entry.log.now (drop n sources.now))
+        nothing 1 (take n sources.now) }
 {
     let mut seen = Seen {
         primary: &[],

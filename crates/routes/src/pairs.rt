@@ -1,5 +1,5 @@
 // Which leg may begin and which may end a route of which kind, and which may follow which: Attachment 5's tables, as specs/LegTable sets
-// them out. Assumes of its callers, all in this crate, that a table of pairs is right, and a kind's number one of the nine's or 9.
+// them out. Assumes nothing of the caller.
 ghost use Rattle.std.specs.Prelude.{◌≡◌, ◌+◌, ◌*◌, ◌<◌, ◌≤◌, eqb, get_or};
 ghost use Rattle.slices.specs.Search.{first_at};
 ghost use Rattle.columns.specs.Rows.{byte_in};
