@@ -5,43 +5,30 @@
 #![tactic(auto)]
 
 use columns::Kind;
+use std::io;
 use std::io::{BufWriter, Write};
-use std::{fs, io};
-
-fn print_kind(to: &mut impl Write, rec: &[u8]) -> io::Result<()> {
-    let kind = columns::kind_of(rec);
-    match kind {
-        Kind::Primary => to.write_all(b"primary\t"),
-        Kind::Continuation => to.write_all(b"continuation\t"),
-    }
-}
 
 fn print_answer(to: &mut impl Write, rec: &[u8]) -> io::Result<()> {
-    print_kind(to, rec)?;
+    let kind = match columns::kind_of(rec) {
+        Kind::Primary => "primary",
+        Kind::Continuation => "continuation",
+    };
     let field = columns::first_bad(rec);
     let byte = columns::bad_byte(rec);
-    writeln!(to, "{field}\t{byte}")
+    writeln!(to, "{kind}\t{field}\t{byte}")
 }
 
 // One answer for each line; a tail without a line feed is a line too.
 fn print_answers(to: &mut impl Write, text: &[u8]) -> io::Result<()> {
-    let mut from = 0;
-    while from < text.len() {
-        let end = slices::line_feed(text, from);
-        print_answer(to, &text[from..end])?;
-        if end == text.len() {
-            break;
-        }
-        from = end + 1;
+    for line in text.split_inclusive(|&byte| byte == b'\n') {
+        print_answer(to, line.strip_suffix(b"\n").unwrap_or(line))?;
     }
     Ok(())
 }
 
 fn main(rt: HostRuntime) -> io::Result<()> {
     let mut space = [0u8; 65536];
-    // Where there is none, that is the error.
-    let _file = fs::open(&rt, "records.txt")?;
-    let n = folder::read(&rt, b"records.txt", &mut space);
+    let n = vectors::stored(&rt, "records.txt", &mut space)?;
     let mut to = BufWriter::new(rt.alloc(), io::writer(&rt))?;
     print_answers(&mut to, &space[..n])?;
     to.flush()

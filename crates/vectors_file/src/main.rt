@@ -9,138 +9,59 @@
 // The files and what is to be printed are made by the program in reference/.
 #![tactic(auto)]
 
-ghost use Rattle.std.specs.Prelude.{◌≤◌, length, IfOk};
-
-use refusals::Verdict;
+use std::io;
 use std::io::{BufWriter, Write};
-use std::rt::Files;
-use std::{fs, io};
+use vectors::{Instruction, Said, Text};
 
-fn print(to: &mut impl Write, text: &[u8]) -> io::Result<()> {
-    to.write_all(text)
+// The n-th record of the bases, counted from 0, and a line feed.
+fn with_line_feed(bases: &[u8], n: u8) -> [u8; 133] {
+    let mut line = [b'\n'; 133];
+    slices::copy(bases, n as usize * 132, &mut line, 0, 132);
+    line
 }
 
-fn print_number(to: &mut impl Write, n: usize) -> io::Result<()> {
-    write!(to, "{n}")
-}
-
-fn print_verdict(to: &mut impl Write, v: Verdict) -> io::Result<()> {
-    match v {
-        Ok(()) => print(to, b"yes\n"),
-        Err(r) => {
-            print(to, b"no\t")?;
-            print_number(to, r.number as usize)?;
-            print(to, b"\t")?;
-            print_number(to, r.place)?;
-            print(to, b"\t")?;
-            print_number(to, r.column)?;
-            print(to, b"\n")
-        }
-    }
-}
-
-// The verdict on the first n bytes.
-fn print_check(to: &mut impl Write, space: &[u8], n: usize) -> io::Result<()> {
-    if n < space.len() {
-        print_verdict(to, routes::check(&space[0..n]))
-    } else {
-        print_verdict(to, routes::check(space))
-    }
-}
-
-// A length and some bytes more, as long as they have room.
-fn longer(n: usize, by: usize) -> usize
-    ensures { result ≤ 65536 }
-{
-    if n <= 65000 {
-        if by <= 500 {
-            return n + by;
-        }
-    }
-    65536
-}
-
-// Carries out an instruction on a file of n bytes, `whole` being the length of the file before it, and answers how long it is then.
+// Carries out an instruction; what the file that is whole comes to is printed.
 fn carry_out(
-    bases: &[u8],
-    space: &mut [u8],
-    n: usize,
-    whole: usize,
-    op: u8,
-    x: u8,
-    y: u8,
-) -> usize {
-    let k = x as usize;
-    if op == 1 {
-        slices::copy(bases, k * 132, space, n, 132);
-        slices::put_after(space, n, 132, 10);
-        return longer(n, 133);
-    }
-    if op == 2 {
-        if 133 <= n {
-            if 1 <= k {
-                slices::put_after(space, n - 133, k - 1, y);
-            }
-        }
-        return n;
-    }
-    if op == 3 {
-        if k <= n {
-            return n - k;
-        }
-        return 0;
-    }
-    if op == 4 {
-        slices::put_after(space, n, 0, x);
-        return longer(n, 1);
-    }
-    if op == 5 {
-        return whole;
-    }
-    0
-}
-
-fn print_files(
     to: &mut impl Write,
     bases: &[u8],
-    instructions: &[u8],
-    space: &mut [u8],
+    file: &mut Text,
+    step: Instruction,
 ) -> io::Result<()> {
-    let mut n = 0;
-    let mut whole = 0;
-    let mut at = 0;
-    while at < instructions.len() {
-        let op = slices::byte_at(instructions, at);
-        let x = slices::byte_after(instructions, at, 1);
-        let y = slices::byte_after(instructions, at, 2);
-        if op == 0 {
-            print_check(to, space, n)?;
-            whole = n;
+    match step.kind {
+        0 => {
+            writeln!(to, "{}", Said(routes::check(file.bytes())))?;
+            file.end();
         }
-        n = carry_out(bases, space, n, whole, op, x, y);
-        if instructions.len() - at <= 3 {
-            break;
+        1 => file.write_all(&with_line_feed(bases, step.x))?,
+        2 => {
+            if let Some(last) = file.bytes().len().checked_sub(133) {
+                if 1 <= step.x {
+                    file.set(last + step.x as usize - 1, step.y);
+                }
+            }
         }
-        at += 3;
+        3 => file.cut(step.x as usize),
+        4 => file.write_all(&[step.x])?,
+        5 => file.again(),
+        _ => file.cut(usize::MAX),
     }
     Ok(())
 }
 
-// How many bytes a stored file has. One that is not there is an error; one that can't be read to its end counts as having none.
-fn stored(rt: &impl Files, name: &str, into: &mut [u8]) -> io::Result<usize>
-    ensures { IfOk result (λ n. n ≤ length into.new) }
-{
-    let _file = fs::open(rt, name)?;
-    Ok(folder::read(rt, name.as_bytes(), into))
+fn print_files(to: &mut impl Write, bases: &[u8], instructions: &[u8]) -> io::Result<()> {
+    let mut file = Text::new();
+    for step in instructions.chunks(3) {
+        carry_out(to, bases, &mut file, Instruction::of(step))?;
+    }
+    Ok(())
 }
 
 fn main(rt: HostRuntime) -> io::Result<()> {
     let mut bases = [0u8; 4096];
-    let b = stored(&rt, "bases.bin", &mut bases)?;
+    let b = vectors::stored(&rt, "bases.bin", &mut bases)?;
     let mut instructions = [0u8; 65536];
-    let n = stored(&rt, "files.bin", &mut instructions)?;
-    let mut space = [0u8; 65536];
+    let n = vectors::stored(&rt, "files.bin", &mut instructions)?;
     let mut to = BufWriter::new(rt.alloc(), io::writer(&rt))?;
-    print_files(&mut to, &bases[..b], &instructions[..n], &mut space)?;
+    print_files(&mut to, &bases[..b], &instructions[..n])?;
     to.flush()
 }

@@ -31,90 +31,40 @@
 // The cases and what is to be printed are made by the program in reference/.
 #![tactic(auto)]
 
-ghost use Rattle.std.specs.Prelude.{◌≤◌, ◌<◌, ◌≡◌, length, IfOk};
+ghost use Rattle.std.specs.Prelude.{◌≤◌};
 
 use applying::Fault;
-use refusals::{Refusal, Verdict};
+use refusals::Refusal;
 use routes::Sources;
 use selection::{Explained, Failure, Picked};
+use std::io;
 use std::io::{BufWriter, Write};
-use std::rt::Files;
-use std::{fs, io};
+use vectors::{Instruction, Said, Text, rolled, sum_of};
 
-fn print(to: &mut impl Write, text: &[u8]) -> io::Result<()> {
-    to.write_all(text)
-}
+// A record of the set and its line feed.
+const LINE: usize = 133;
 
-fn print_number(to: &mut impl Write, n: u64) -> io::Result<()> {
-    write!(to, "\t{n}")
-}
-
-fn print_refusal(to: &mut impl Write, r: Refusal) -> io::Result<()> {
-    print_number(to, r.number as u64)?;
-    print_number(to, r.place as u64)?;
-    print_number(to, r.column as u64)
-}
-
-fn print_verdict(to: &mut impl Write, v: Verdict) -> io::Result<()> {
-    match v {
-        Ok(()) => print(to, b"\tyes"),
-        Err(r) => {
-            print(to, b"\tno")?;
-            print_refusal(to, r)
-        }
-    }
-}
+// As many bytes as a buffer has, if an instruction does not say so.
+const ROOM: usize = 63840;
 
 // ---- check sums
 
-// One more number in a check sum, which is a number below 4,294,967,291.
-fn rolled(sum: u64, number: u64) -> u64 {
-    (sum % 4294967291 * 257 + number % 4294967296 + 1) % 4294967291
-}
-
-fn wide(b: u8) -> u64 {
-    b as u64
-}
-
-// The check sum of these bytes.
-fn sum_of(bytes: &[u8]) -> u64 {
-    let mut sum: u64 = 0;
-    let mut i: usize = 0;
-    while i < bytes.len() {
-        sum = rolled(sum, wide(bytes[i]));
-        i += 1;
-    }
-    sum
-}
-
-// A check sum and a number for each correction that may be taken, those past the count too.
-fn with_numbers(sum: u64, numbers: [u32; 200]) -> u64 {
-    let mut rolling = sum;
-    let mut i: usize = 0;
-    while i < 200 {
-        let number = numbers[i];
-        rolling = rolled(rolling, number as u64);
-        i += 1;
-    }
-    rolling
+// A check sum and these numbers.
+fn with_numbers(sum: u64, numbers: &[u32]) -> u64 {
+    numbers
+        .iter()
+        .fold(sum, |sum, &number| rolled(sum, u64::from(number)))
 }
 
 // A check sum and all sources, those past the count too.
-fn with_sources(sum: u64, records: Sources) -> u64 {
-    let mut rolling = rolled(sum, records.count as u64);
-    let mut i: usize = 0;
-    while i < 480 {
-        let source = records.at[i];
-        rolling = rolled(rolling, source as u64);
-        i += 1;
-    }
-    rolling
+fn with_sources(sum: u64, records: &Sources) -> u64 {
+    with_numbers(rolled(sum, records.count as u64), &records.at)
 }
 
-fn answer_sum(picked: Picked) -> u64 {
-    let taken = picked.taken;
-    let records = picked.records;
-    with_sources(with_numbers(rolled(0, picked.count as u64), taken), records)
+// The check sum of an answer, with all corrections that may be taken, those past the count too.
+fn answer_sum(picked: &Picked) -> u64 {
+    let taken = with_numbers(rolled(0, picked.count as u64), &picked.taken);
+    with_sources(taken, &picked.records)
 }
 
 // What is printed and summed of a log that does not fail, and where there are no reasons: a case has the same columns either way.
@@ -145,531 +95,259 @@ const NO_REASONS: Explained = Explained {
 };
 
 // The check sum of all that is said to be wrong.
-fn failure_sum(failure: Failure) -> u64 {
+fn failure_sum(failure: &Failure) -> u64 {
     let fault = failure.fault;
     let inner = fault.inner;
-    let route = fault.route;
     let line = rolled(rolled(0, failure.line as u64), fault.at as u64);
     let number = rolled(line, inner.number as u64);
     let refusal = rolled(rolled(number, inner.place as u64), inner.column as u64);
-    with_sources(refusal, route)
+    with_sources(refusal, &fault.route)
 }
 
-fn explained_sum(explained: Result<Explained, Failure>) -> u64 {
+fn reasons_sum(sum: u64, explained: &Explained) -> u64 {
+    let taken = with_numbers(rolled(sum, explained.count as u64), &explained.taken);
+    with_numbers(with_numbers(taken, &explained.relying), &explained.source)
+}
+
+fn explained_sum(explained: &Result<Explained, Failure>) -> u64 {
     match explained {
-        Ok(explained) => reasons_sum(failure_sum(NO_FAILURE), explained),
-        Err(failure) => reasons_sum(failure_sum(failure), NO_REASONS),
+        Ok(explained) => reasons_sum(failure_sum(&NO_FAILURE), explained),
+        Err(failure) => reasons_sum(failure_sum(failure), &NO_REASONS),
     }
-}
-
-fn reasons_sum(rolling: u64, explained: Explained) -> u64 {
-    let taken = explained.taken;
-    let relying = explained.relying;
-    let source = explained.source;
-    let count = rolled(rolling, explained.count as u64);
-    with_numbers(with_numbers(with_numbers(count, taken), relying), source)
 }
 
 // ---- one case
 
-// The first n of the corrections taken.
-fn print_taken(to: &mut impl Write, picked: Picked, n: usize) -> io::Result<()> {
-    let mut i: usize = 0;
-    while i < 200 {
-        if n <= i {
-            break;
-        }
-        let number = picked.taken[i];
-        print_number(to, number as u64)?;
-        i += 1;
+fn print_numbers(to: &mut impl Write, numbers: &[u32], count: usize) -> io::Result<()> {
+    for number in numbers.iter().take(count) {
+        write!(to, "\t{number}")?;
     }
     Ok(())
 }
 
-// The first n sources.
-fn print_sources(to: &mut impl Write, records: Sources, n: usize) -> io::Result<()> {
-    let mut i: usize = 0;
-    while i < 480 {
-        if n <= i {
-            break;
-        }
-        let source = records.at[i];
-        print_number(to, source as u64)?;
-        i += 1;
+fn print_picked(to: &mut impl Write, picked: &Picked) -> io::Result<()> {
+    write!(to, "\t{}", Said(picked.verdict))?;
+    if picked.verdict.is_ok() {
+        let count = picked.count;
+        let records = picked.records.count;
+        write!(to, "\t{count}\t{records}")?;
+        print_numbers(to, &picked.taken, count)?;
+        print_numbers(to, &picked.records.at, records)?;
     }
     Ok(())
-}
-
-fn print_picked(to: &mut impl Write, picked: Picked) -> io::Result<()> {
-    let verdict = picked.verdict;
-    print_verdict(to, verdict)?;
-    match verdict {
-        Ok(()) => {
-            let records = picked.records;
-            print_number(to, picked.count as u64)?;
-            print_number(to, records.count as u64)?;
-            print_taken(to, picked, picked.count)?;
-            print_sources(to, records, records.count)
-        }
-        Err(_) => Ok(()),
-    }
 }
 
 // What is wrong with a log.
-fn print_failure(to: &mut impl Write, failure: Failure) -> io::Result<()> {
-    let fault = failure.fault;
-    let inner = fault.inner;
-    let route = fault.route;
-    print_number(to, failure.line as u64)?;
-    print_number(to, fault.at as u64)?;
-    print_refusal(to, inner)?;
-    print_number(to, route.count as u64)?;
-    print_sources(to, route, route.count)
+fn print_failure(to: &mut impl Write, failure: &Failure) -> io::Result<()> {
+    let line = failure.line;
+    let at = failure.fault.at;
+    let inner = failure.fault.inner;
+    let route = failure.fault.route;
+    write!(to, "\t{line}\t{at}\t{inner}\t{}", route.count)?;
+    print_numbers(to, &route.at, route.count)
 }
 
-// The first n of the reasons.
-fn print_reasons(to: &mut impl Write, explained: Explained, n: usize) -> io::Result<()> {
-    let mut i: usize = 0;
-    while i < 200 {
-        if n <= i {
-            break;
-        }
-        let number = explained.taken[i];
-        let relying = explained.relying[i];
-        let source = explained.source[i];
-        print_number(to, number as u64)?;
-        print_number(to, relying as u64)?;
-        print_number(to, source as u64)?;
-        i += 1;
-    }
-    Ok(())
-}
-
-fn print_explained(to: &mut impl Write, explained: Result<Explained, Failure>) -> io::Result<()> {
+fn print_explained(to: &mut impl Write, explained: &Result<Explained, Failure>) -> io::Result<()> {
     match explained {
         Ok(explained) => {
-            print_verdict(to, Ok(()))?;
-            print_number(to, explained.count as u64)?;
-            print_reasons(to, explained, explained.count)
+            write!(to, "\tyes\t{}", explained.count)?;
+            let reasons = explained.taken.iter().zip(&explained.relying);
+            for ((number, relying), source) in reasons.zip(&explained.source).take(explained.count) {
+                write!(to, "\t{number}\t{relying}\t{source}")?;
+            }
+            Ok(())
         }
-        Err(failure) => print_verdict(to, Err(failure.refusal)),
+        Err(failure) => write!(to, "\tno\t{}", failure.refusal),
     }
 }
 
 // The length and the check sum of a line.
 fn print_line(to: &mut impl Write, line: &[u8]) -> io::Result<()> {
-    print_number(to, line.len() as u64)?;
-    print_number(to, sum_of(line))
-}
-
-// The line behind the last of so many.
-fn behind(count: usize) -> usize {
-    if count < 480 { count + 1 } else { 481 }
+    let length = line.len();
+    let sum = sum_of(line);
+    write!(to, "\t{length}\t{sum}")
 }
 
 // The same pick, but refused.
 fn refused(picked: Picked) -> Picked {
-    let taken = picked.taken;
-    let records = picked.records;
     Picked {
         verdict: Err(Refusal::buffer_too_short()),
-        count: picked.count,
-        taken,
-        records,
+        ..picked
     }
 }
 
-fn print_lines<'a>(
+fn print_lines(
     to: &mut impl Write,
-    frozen: &'a [u8],
-    log: &'a [u8],
+    frozen: &[u8],
+    log: &[u8],
     wanted: &[u32],
     picked: Picked,
 ) -> io::Result<()> {
-    let records = picked.records;
-    let last = records.count;
+    let last = picked.records.count;
     let middle = last / 2 + last % 2;
-    print_line(to, selection::line_of(frozen, log, picked, 0))?;
-    print_line(to, selection::line_of(frozen, log, picked, 1))?;
-    print_line(to, selection::line_of(frozen, log, picked, middle))?;
-    print_line(to, selection::line_of(frozen, log, picked, last))?;
-    print_line(to, selection::line_of(frozen, log, picked, behind(last)))?;
-    print_line(to, selection::line_of(frozen, log, picked, usize::MAX))?;
+    let behind = last.min(480) + 1;
+    for n in [0, 1, middle, last, behind, usize::MAX] {
+        print_line(to, selection::line_of(frozen, log, picked, n))?;
+    }
     print_line(to, selection::line_of(frozen, log, refused(picked), 1))?;
     print_line(to, selection::line(frozen, log, wanted, middle))?;
-    print_line(to, selection::line(frozen, log, wanted, behind(last)))
+    print_line(to, selection::line(frozen, log, wanted, behind))
 }
 
-// Makes every byte 255.
-fn fill(out: &mut [u8]) {
-    let mut i: usize = 0;
-    while i < out.len() {
-        out[i] = 255;
-        i += 1;
-    }
-}
-
-fn print_case<'a>(
+fn print_case(
     to: &mut impl Write,
     number: usize,
-    frozen: &'a [u8],
-    log: &'a [u8],
+    frozen: &[u8],
+    log: &[u8],
     wanted: &[u32],
     out: &mut [u8],
 ) -> io::Result<()> {
-    print(to, b"case")?;
-    print_number(to, number as u64)?;
-    print_verdict(to, selection::check_log(frozen, log))?;
-    print(to, b"\nfails")?;
+    let checked = Said(selection::check_log(frozen, log));
+    write!(to, "case\t{number}\t{checked}\nfails")?;
     let failure = selection::failing(frozen, log).err().unwrap_or(NO_FAILURE);
-    print_failure(to, failure)?;
-    print(to, b"\npick")?;
+    print_failure(to, &failure)?;
+    write!(to, "\npick")?;
     let picked = selection::pick(frozen, log, wanted);
-    print_picked(to, picked)?;
-    print(to, b"\nwhy")?;
+    print_picked(to, &picked)?;
+    write!(to, "\nwhy")?;
     let explained = selection::reasons(frozen, log, wanted);
-    print_explained(to, explained)?;
-    print(to, b"\nfile")?;
-    fill(out);
+    print_explained(to, &explained)?;
+    out.fill(255);
     let made = selection::new_file(frozen, log, wanted, out);
-    let verdict = made.verdict;
-    print_verdict(to, verdict)?;
-    print(to, b"\nsums")?;
-    print_number(to, answer_sum(picked))?;
-    print_number(to, answer_sum(made))?;
-    print_number(to, sum_of(out))?;
-    print_number(to, failure_sum(failure))?;
-    print_number(to, explained_sum(explained))?;
-    print(to, b"\nlines")?;
+    write!(to, "\nfile\t{}\nsums", Said(made.verdict))?;
+    let sums = [
+        answer_sum(&picked),
+        answer_sum(&made),
+        sum_of(out),
+        failure_sum(&failure),
+        explained_sum(&explained),
+    ];
+    for sum in sums {
+        write!(to, "\t{sum}")?;
+    }
+    write!(to, "\nlines")?;
     print_lines(to, frozen, log, wanted, picked)?;
-    print(to, b"\n")
-}
-
-// A length, or that of the space where it is longer.
-fn within(n: usize, space: &[u8]) -> usize
-    ensures { result ≤ length space.now }
-{
-    if n < space.len() { n } else { space.len() }
-}
-
-fn numbers_within(n: usize, space: &[u32]) -> usize
-    ensures { result ≤ length space.now }
-{
-    if n < space.len() { n } else { space.len() }
-}
-
-// How much of each space a case fills, and the texts of the one before it; and its number.
-#[derive(Clone, Copy)]
-struct Filled {
-    frozen: usize,
-    frozen_before: usize,
-    log: usize,
-    log_before: usize,
-    wanted: usize,
-    out: usize,
-    number: usize,
-}
-
-// The case that fills so much of these spaces.
-fn print_filled<'a>(
-    to: &mut impl Write,
-    frozen: &'a [u8],
-    log: &'a [u8],
-    wanted: &[u32],
-    out: &mut [u8],
-    filled: Filled,
-) -> io::Result<()> {
-    let f = within(filled.frozen, frozen);
-    let l = within(filled.log, log);
-    let w = numbers_within(filled.wanted, wanted);
-    let o = within(filled.out, out);
-    print_case(
-        to,
-        filled.number,
-        &frozen[0..f],
-        &log[0..l],
-        &wanted[0..w],
-        &mut out[0..o],
-    )
+    writeln!(to)
 }
 
 // ---- instructions
 
-// A length and some bytes more, as long as they have room.
-fn longer(n: usize, by: usize) -> usize
-    ensures { result ≤ 65536 }
-{
-    if n <= 65536 {
-        if by <= 65536 - n {
-            return n + by;
+// A record of the set and its line feed; zeros where the set ends before.
+fn record(records: &[u8], number: u16) -> [u8; LINE] {
+    let mut line = [0u8; LINE];
+    slices::copy(records, number as usize * LINE, &mut line, 0, LINE);
+    line
+}
+
+// The wanted numbers, as many as there is room for.
+#[derive(Drop)]
+struct Wanted {
+    numbers: [u32; 1000],
+    count: usize,
+    ghost within: { count ≤ 1000 },
+}
+
+impl Wanted {
+    fn push(&mut self, number: u16) {
+        if self.count < self.numbers.len() {
+            self.numbers[self.count] = u32::from(number);
+            self.count += 1;
         }
     }
-    65536
-}
 
-// A length and some bytes less, as long as it has them.
-fn shorter(n: usize, by: usize) -> usize {
-    if by <= n { n - by } else { 0 }
-}
-
-// Puts a byte so many times behind the first n.
-fn put_run(space: &mut [u8], n: usize, byte: u8, times: usize) -> usize {
-    let mut k: usize = 0;
-    while k < times {
-        slices::put_after(space, n, k, byte);
-        k += 1;
-    }
-    longer(n, times)
-}
-
-// Puts a record and its line feed behind the first n.
-fn put_record(records: &[u8], space: &mut [u8], n: usize, number: u16) -> usize {
-    slices::copy(records, number as usize * 133, space, n, 133);
-    longer(n, 133)
-}
-
-// Puts a D or A line behind the first n.
-fn put_line(records: &[u8], space: &mut [u8], n: usize, letter: u8, number: u16) -> usize {
-    let tab = put_run(space, n, letter, 1);
-    let record = put_run(space, tab, b'\t', 1);
-    put_record(records, space, record, number)
-}
-
-// Puts the digit of a number at the place of 1, 10, 100 and so on behind the first n, unless it is a zero in front of the number.
-fn put_digit(space: &mut [u8], n: usize, number: u16, place: u16) -> usize
-    requires { 0 < place }
-{
-    if (number < place) & (1 < place) {
-        return n;
-    }
-    put_run(space, n, (number / place % 10) as u8 + 48, 1)
-}
-
-fn put_heading(space: &mut [u8], n: usize, number: u16) -> usize {
-    let tab = put_run(space, n, b'C', 1);
-    let digits = put_run(space, tab, b'\t', 1);
-    let ten_thousands = put_digit(space, digits, number, 10000);
-    let thousands = put_digit(space, ten_thousands, number, 1000);
-    let hundreds = put_digit(space, thousands, number, 100);
-    let tens = put_digit(space, hundreds, number, 10);
-    let end = put_digit(space, tens, number, 1);
-    put_run(space, end, b'\n', 1)
-}
-
-// The number of an instruction.
-fn number_of(x: u8, y: u8) -> u16 {
-    x as u16 * 256 + y as u16
-}
-
-// Carries out an instruction on a frozen file of n bytes, `whole` being the length of the one before it, and answers how long it is then.
-fn frozen_after(
-    records: &[u8],
-    space: &mut [u8],
-    n: usize,
-    whole: usize,
-    op: u8,
-    x: u8,
-    y: u8,
-) -> usize {
-    let number = number_of(x, y);
-    if op == 1 {
-        return put_record(records, space, n, number);
-    }
-    if op == 2 {
-        return put_run(space, n, x, y as usize);
-    }
-    if op == 3 {
-        return shorter(n, number as usize);
-    }
-    if op == 12 {
-        return whole;
-    }
-    n
-}
-
-// The same on a log.
-fn log_after(
-    records: &[u8],
-    space: &mut [u8],
-    n: usize,
-    whole: usize,
-    op: u8,
-    x: u8,
-    y: u8,
-) -> usize {
-    let number = number_of(x, y);
-    if op == 4 {
-        return put_line(records, space, n, b'D', number);
-    }
-    if op == 5 {
-        return put_line(records, space, n, b'A', number);
-    }
-    if op == 6 {
-        return put_heading(space, n, number);
-    }
-    if op == 7 {
-        return put_run(space, n, x, y as usize);
-    }
-    if op == 8 {
-        return shorter(n, number as usize);
-    }
-    if op == 13 {
-        return whole;
-    }
-    n
-}
-
-// The same on a list of n wanted numbers.
-fn wanted_after(space: &mut [u32], n: usize, op: u8, x: u8, y: u8) -> usize {
-    let number = number_of(x, y) as u32;
-    if op == 9 {
-        if n < space.len() {
-            space[n] = number;
-            return n + 1;
+    // The last one times 65,536, and so many more.
+    fn lengthen(&mut self, number: u16) {
+        if let Some(last) = self.count.checked_sub(1) {
+            self.numbers[last] = self.numbers[last] % 65536 * 65536 + u32::from(number);
         }
     }
-    if op == 10 {
-        if 1 <= n {
-            if n <= space.len() {
-                let last = space[n - 1];
-                space[n - 1] = last % 65536 * 65536 + number;
-            }
-        }
-    }
-    n
 }
 
-// The bytes of the buffer.
-fn room_after(room: usize, op: u8, x: u8, y: u8) -> usize {
-    if op == 11 {
-        return number_of(x, y) as usize;
-    }
-    room
+// A case: its number, what is said of it so far, and how many bytes of the buffer are lent.
+#[derive(Drop)]
+struct Case {
+    number: usize,
+    frozen: Text,
+    log: Text,
+    wanted: Wanted,
+    room: usize,
 }
 
-// Begins a case, with the texts of this one before it.
-fn begun(filled: Filled) -> Filled {
-    Filled {
-        frozen: 0,
-        frozen_before: filled.frozen,
-        log: 0,
-        log_before: filled.log,
-        wanted: 0,
-        out: 63840,
-        number: longer(filled.number, 1),
-    }
+// Prints the case, and begins the next one.
+fn end(to: &mut impl Write, case: &mut Case, out: &mut [u8]) -> io::Result<()> {
+    let room = case.room.min(out.len());
+    print_case(
+        to,
+        case.number,
+        case.frozen.bytes(),
+        case.log.bytes(),
+        &case.wanted.numbers[..case.wanted.count],
+        &mut out[..room],
+    )?;
+    case.frozen.end();
+    case.log.end();
+    case.wanted.count = 0;
+    case.room = ROOM;
+    case.number = case.number.saturating_add(1).min(65536);
+    Ok(())
 }
 
-// Carries out the instruction at this place.
+// Carries out an instruction on a case.
 fn carry_out(
     to: &mut impl Write,
-    instructions: &[u8],
-    at: usize,
     records: &[u8],
-    frozen: &mut [u8],
-    log: &mut [u8],
-    wanted: &mut [u32],
-    out: &mut [u8],
-    filled: Filled,
-) -> io::Result<Filled> {
-    let op = slices::byte_at(instructions, at);
-    let x = slices::byte_after(instructions, at, 1);
-    let y = slices::byte_after(instructions, at, 2);
-    if op == 0 {
-        print_filled(to, frozen, log, wanted, out, filled)?;
-        return Ok(begun(filled));
-    }
-    Ok(Filled {
-        frozen: frozen_after(
-            records,
-            frozen,
-            filled.frozen,
-            filled.frozen_before,
-            op,
-            x,
-            y,
-        ),
-        frozen_before: filled.frozen_before,
-        log: log_after(records, log, filled.log, filled.log_before, op, x, y),
-        log_before: filled.log_before,
-        wanted: wanted_after(wanted, filled.wanted, op, x, y),
-        out: room_after(filled.out, op, x, y),
-        number: filled.number,
-    })
-}
-
-fn print_cases(
-    to: &mut impl Write,
-    instructions: &[u8],
-    records: &[u8],
-    frozen: &mut [u8],
-    log: &mut [u8],
-    wanted: &mut [u32],
+    case: &mut Case,
+    step: Instruction,
     out: &mut [u8],
 ) -> io::Result<()> {
-    let mut filled = Filled {
-        frozen: 0,
-        frozen_before: 0,
-        log: 0,
-        log_before: 0,
-        wanted: 0,
-        out: 63840,
-        number: 1,
-    };
-    let mut at = 0;
-    while at < instructions.len() {
-        filled = carry_out(
-            to,
-            instructions,
-            at,
-            records,
-            frozen,
-            log,
-            wanted,
-            out,
-            filled,
-        )?;
-        if instructions.len() - at <= 3 {
-            break;
+    let number = step.number();
+    match step.kind {
+        0 => end(to, case, out)?,
+        1 => case.frozen.write_all(&record(records, number))?,
+        2 => case.frozen.write_all(&[step.x; 255][..step.y as usize])?,
+        3 => case.frozen.cut(number as usize),
+        4 | 5 => {
+            let letter = if step.kind == 4 { b'D' } else { b'A' };
+            case.log.write_all(&[letter, b'\t'])?;
+            case.log.write_all(&record(records, number))?;
         }
-        at += 3;
+        6 => writeln!(case.log, "C\t{number}")?,
+        7 => case.log.write_all(&[step.x; 255][..step.y as usize])?,
+        8 => case.log.cut(number as usize),
+        9 => case.wanted.push(number),
+        10 => case.wanted.lengthen(number),
+        11 => case.room = number as usize,
+        12 => case.frozen.again(),
+        13 => case.log.again(),
+        _ => {}
     }
     Ok(())
 }
 
-// Zeros for a stored file.
-fn stored_space() -> [u8; 200000]
-    ensures { 200000 ≡ length result }
-{
-    [0; 200000]
-}
-
-// How many bytes a stored file has. One that is not there is an error; one that can't be read to its end counts as having none.
-fn stored(rt: &impl Files, name: &str, into: &mut [u8]) -> io::Result<usize>
-    ensures { IfOk result (λ n. n ≤ length into.new) }
-{
-    let _file = fs::open(rt, name)?;
-    Ok(folder::read(rt, name.as_bytes(), into))
+fn print_cases(to: &mut impl Write, instructions: &[u8], records: &[u8]) -> io::Result<()> {
+    let mut out = [0u8; 65536];
+    let mut case = Case {
+        number: 1,
+        frozen: Text::new(),
+        log: Text::new(),
+        wanted: Wanted {
+            numbers: [0; 1000],
+            count: 0,
+        },
+        room: ROOM,
+    };
+    for step in instructions.chunks(3) {
+        carry_out(to, records, &mut case, Instruction::of(step), &mut out)?;
+    }
+    Ok(())
 }
 
 fn main(rt: HostRuntime) -> io::Result<()> {
-    let mut records = stored_space();
-    let r = stored(&rt, "records.bin", &mut records)?;
-    let mut instructions = stored_space();
-    let n = stored(&rt, "cases.bin", &mut instructions)?;
-    let mut frozen = [0u8; 65536];
-    let mut log = [0u8; 65536];
-    let mut wanted = [0u32; 1000];
-    let mut out = [0u8; 65536];
+    let mut records = [0u8; 200000];
+    let r = vectors::stored(&rt, "records.bin", &mut records)?;
+    let mut instructions = [0u8; 200000];
+    let n = vectors::stored(&rt, "cases.bin", &mut instructions)?;
     let mut to = BufWriter::new(rt.alloc(), io::writer(&rt))?;
-    print_cases(
-        &mut to,
-        &instructions[..n],
-        &records[..r],
-        &mut frozen,
-        &mut log,
-        &mut wanted,
-        &mut out,
-    )?;
+    print_cases(&mut to, &instructions[..n], &records[..r])?;
     to.flush()
 }
