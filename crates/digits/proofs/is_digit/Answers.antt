@@ -1,8 +1,7 @@
--- Computed. Assumes nothing.
+-- It is the library's test. Assumes nothing.
 use Rattle.digits.specs.Digits.{is_digit}
-use borrow.Author.Rules.{rules}
 use Rattle.digits.proofs.is_digit.Goals as goal
 
 pub returns : goal.returns
 unfolding is_digit
-returns c = search rules
+returns c = c.is_ascii_digit.ensures.value
