@@ -1,39 +1,26 @@
--- One turn of each loop, as an equation between what is left before it and after it.
+-- All digits, by their places; and one turn of the loop over them, as an equation between what is left before it and after it.
 -- Assumes nothing.
-use mathlib.Core.Path.{◌≡◌}
-use mathlib.Core.Bool.{Bool, true, false}
+use mathlib.Core.Path.{◌≡◌, refl, ap, ◌∙◌}
+use mathlib.Core.Bool.{Bool, ◌&&◌}
 use mathlib.Core.List.{List}
-use Prim.Native.Nat.{ℕ, suc, ◌+◌, ◌-◌, ◌*◌, ◌^◌, ◌≤◌, ◌<◌}
+use Prim.Native.Nat.{ℕ, zero, suc, ◌+◌, ◌-◌, ◌*◌, ◌^◌, ◌≤◌, ◌<◌}
 use native.Mathlib.Omega.{arith}
 use native.Mathlib.Nat.{pow-suc}
 use lib.ListN.{get_or}
+use Rattle.std.specs.List.{list_all, range_with_len}
 use Rattle.slices.specs.Part.{part}
 use Rattle.slices.proofs.PartLaws.{one_less, length_part, part_next, part_done, part_whole}
 use Rattle.digits.specs.Digits.{is_digit, all_digits, value}
 use Rattle.digits.proofs.Powers.{next_power, power_small}
 
--- ---- the digits that are left
+-- ---- the digits, by their places
 
-pub digits_left : List ℕ → ℕ → ℕ → ℕ → Bool
-digits_left s at n k = all_digits (part (n - k) (at + k) s)
-
-module _ (s : List ℕ) (at n : ℕ) where
-  pub digits_start : all_digits (part n at s) ≡ digits_left s at n 0
-  unfolding digits_left
-  digits_start = rw (part_whole n at s)
-
-  pub digits_end : (k : ℕ) → n ≤ k → digits_left s at n k ≡ true
-  unfolding digits_left all_digits
-  digits_end k h = rw (part_done n at s k h)
-
-  module _ (k : ℕ) {b : ℕ} {t : Bool} (h : k < n) (hb : b ≡ get_or s (at + k) 0) (ht : t ≡ is_digit b) where
-    pub digits_next : t ≡ true → digits_left s at n k ≡ digits_left s at n (k + 1)
-    unfolding digits_left all_digits
-    digits_next e = rw (part_next n at s k h, ← hb, ← ht, e)
-
-    pub digits_stop : t ≡ false → digits_left s at n k ≡ false
-    unfolding digits_left all_digits
-    digits_stop e = rw (part_next n at s k h, ← hb, ← ht, e)
+pub digits_through : (s : List ℕ) (at n a : ℕ) → list_all (λ k. is_digit (get_or s (at + k) 0)) (range_with_len a n) ≡ all_digits (part n (at + a) s)
+unfolding all_digits part
+digits_through s at zero a = refl
+digits_through s at (suc n) a =
+    let e : at + (a + 1) ≡ suc (at + a) = omega arith in
+    ap (λ (t : Bool). is_digit (get_or s (at + a) 0) && t) (digits_through s at n (a + 1) ∙ rw e)
 
 -- ---- the value
 

@@ -8,39 +8,32 @@ ghost use Rattle.digits.specs.Digits.{is_digit, all_digits, value};
 use slices::byte_after;
 
 // Whether a byte is a digit.
-#[tactic(auto, unfolding(crate::specs::Digits::is_digit))]
 pub fn is_digit(b: u8) -> bool
     ensures { result ≡ is_digit b }
 {
-    matches!(b, b'0'..=b'9')
+    b.is_ascii_digit()
 }
 
 // Whether the n bytes from `at` on are digits.
 pub fn all_digits(s: &[u8], at: usize, n: usize) -> bool
     ensures { result ≡ all_digits (part n at s.now) }
 {
-    for k in 0..n {
-        if !is_digit(byte_after(s, at, k)) {
-            return false;
-        }
-    }
-    true
+    (0..n).all(|k| is_digit(byte_after(s, at, k)))
 }
 
 // What a byte counts as a digit; one below the digits counts 0.
 fn digit(b: u8) -> u32
     ensures { (result ≡ b - 48) × (result ≤ 207) }
 {
-    u32::from(b.saturating_sub(b'0'))
+    b.saturating_sub(b'0') as u32
 }
 
 // The decimal value of the digits from `at` on, of which no more than six are read.
 pub fn number(s: &[u8], at: usize, width: usize) -> u32
     ensures { result ≡ value (part (min width 6) at s.now) }
 {
-    let most = width.min(6);
     let mut n = 0;
-    for k in 0..most {
+    for k in 0..width.min(6) {
         n = n * 10 + digit(byte_after(s, at, k));
     }
     n

@@ -1,4 +1,4 @@
--- The laws that other crates cite too, and one turn of each loop here.
+-- The laws that other crates cite too, and what the specs say in std's words.
 pub mod Cases
 pub mod PartLaws
 pub mod OrderLaws
@@ -7,4 +7,3 @@ pub mod WriteLaws
 pub mod EveryLaws
 pub mod StdLaws
 mod WordLaws
-mod Turns

@@ -11,8 +11,8 @@ use native.Mathlib.Nat.{sub-zero, add-zero, le_of_suc-le-suc, not-suc-le-zero}
 use lib.ListN.{length, get_or, take, drop, replicate, get_or-append, get_or-eq_default, drop_of_length-le, length-drop}
 use native.Mathlib.Decide.{dec_lt}
 use lib.Seq.{drop-cons, take_all, get_or-append-add}
-use lib.Dec.{eqb, ltb, eqb-suc-zero}
-use borrow.Author.Tests.{eqb-true, eq-eqb, ne_eqb, lt-ltb}
+use lib.Dec.{eqb, ltb, leb, eqb-suc-zero}
+use borrow.Author.Tests.{eqb-true, eq-eqb, ne_eqb, lt-ltb, leb-true}
 use Rattle.slices.specs.Part.{part, blank, member}
 use Rattle.slices.proofs.Cases.{and_left, and_right, either, or_left, or_right}
 
@@ -104,6 +104,11 @@ part_take (suc n) i xs h =
 
 pub part_range : (n i : ℕ) (xs : List ℕ) → i + n ≤ length xs → take (i + n - i) (drop i xs) ≡ part n i xs
 part_range n i xs h = let e : i + n - i ≡ n = omega arith in rw e (sym (part_take n i xs h))
+
+-- two runs lie within, by one test
+pub both_lie : (i n m j k : ℕ) {s t : Bool} → s ≡ leb (i + n) m → t ≡ leb (j + n) k → (s && t) ≡ true → (i + n ≤ m) × (j + n ≤ k)
+both_lie i n m j k {s} {t} hs ht h =
+    (leb-true (i + n) m (sym hs ∙ and_left s t h), leb-true (j + n) k (sym ht ∙ and_right s t h))
 
 -- a whole list is the run of its length
 pub part_all : (xs : List ℕ) → part (length xs) 0 xs ≡ xs

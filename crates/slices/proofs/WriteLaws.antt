@@ -1,12 +1,11 @@
 -- Laws of lists that are written over: one byte more of a run, one byte more made 0, and one run stored behind another.
 -- Assumes nothing.
 use mathlib.Core.Path.{◌≡◌, sym, ap, ◌∙◌}
-use mathlib.Core.List.{List, [], ◌∷◌, ◌++◌, append-nil, append_assoc}
+use mathlib.Core.List.{List, [], ◌∷◌, ◌++◌, append_assoc}
 use Prim.Native.Nat.{ℕ, zero, suc, ◌+◌, ◌-◌, ◌≤◌, ◌<◌}
 use native.Mathlib.Omega.{arith}
-use native.Mathlib.Numerals.{add-one}
-use lib.ListN.{length, get_or, set, take, drop, replicate, length-set, length-replicate}
-use lib.Seq.{sets, sets-eq, take-suc-set, take_all, append_snoc}
+use lib.ListN.{length, get_or, set, take, drop, replicate, length-replicate}
+use lib.Seq.{sets, sets-eq}
 use borrow.Rule.Slice.PartMut.{put_mid, Post-is}
 use Rattle.slices.specs.Part.{part}
 use Rattle.slices.proofs.PartLaws.{length_part, part_next, part_done, part_whole}

@@ -85,7 +85,21 @@ fn compare_words(mut x: &[u8], mut y: &[u8]) -> Ordering
         x = x_rest;
         y = y_rest;
     }
-    x.iter().cmp(y.iter())
+    compare_bytes(x, y)
+}
+
+// The order of bytes, one at a time. `cmp` of the two iterators took twice as many instructions for three bytes.
+#[inline]
+fn compare_bytes(x: &[u8], y: &[u8]) -> Ordering
+    ensures { result ≡ order x.now y.now }
+{
+    for k in 0..x.len().min(y.len()) {
+        let way = x[k].cmp(&y[k]);
+        if way.is_ne() {
+            return way;
+        }
+    }
+    x.len().cmp(&y.len())
 }
 
 // The order of bytes that may be past an end.

@@ -1,17 +1,16 @@
--- By the invariant: what is left to look at decides the answer. Assumes nothing.
-use mathlib.Core.Path.{sym, ◌∙◌}
-use Rattle.digits.proofs.Turns.{digits_start, digits_next, digits_stop, digits_end}
-use borrow.Author.Rules.{rules}
+-- The byte of each place is looked at. Assumes nothing.
+use Rattle.std.proofs.Common.{◌≡◌, ◌+◌, ◌∙◌, refl, ap, arith, rules, get_or, ℕ}
+use Rattle.std.proofs.lemmas.Iterator.{YieldsList-from_range}
+use Rattle.std.proofs.lemmas.Iterator.Search.{all_from_yields_List}
+use borrow.Author.Tests.{tests}
+use Rattle.slices.specs.Part.{part}
+use Rattle.digits.specs.Digits.{is_digit, all_digits}
+use Rattle.digits.proofs.Turns.{digits_through}
 use Rattle.digits.proofs.all_digits.Goals as goal
 
-pub loop-k-init : goal.loop-k-init
-loop-k-init c = (search rules, digits_start _ _ _)
-
-pub returns-then-not-is_digit : goal.returns-then-not-is_digit
-returns-then-not-is_digit c = sym (c.loop-k.invariant.1 ∙ digits_stop _ _ _ _ c.loop-k-test.true c.byte_after.ensures c.is_digit.ensures (c.if-not-is_digit.true))
-
-pub loop-k-preserved : goal.loop-k-preserved
-loop-k-preserved c = (search rules, c.loop-k.invariant.1 ∙ digits_next _ _ _ _ c.loop-k-test.true c.byte_after.ensures c.is_digit.ensures (c.if-not-is_digit.false))
-
 pub returns : goal.returns
-returns c = sym (c.loop-k.invariant.1 ∙ digits_end _ _ _ _ c.loop-k-test.false)
+returns c =
+    let e : c.args.at + 0 ≡ c.args.at = omega arith in
+    all_from_yields_List (λ k. is_digit (get_or c.args.s.now (c.args.at + k) 0)) _ _ c.all.result c.all.ensures.ran (YieldsList-from_range 0 c.args.n c.args.n refl (omega arith)) (λ x b q k. search (rules, tests))
+    ∙ digits_through c.args.s.now c.args.at c.args.n 0
+    ∙ ap (λ (i : ℕ). all_digits (part c.args.n i c.args.s.now)) e

@@ -1,8 +1,7 @@
 -- What is compared are the runs. Assumes nothing.
 use Rattle.std.proofs.Common.{ap₂, ◌∙◌}
 use Rattle.slices.specs.Order.{order}
-use Rattle.slices.proofs.PartLaws.{part_range}
-use Rattle.slices.proofs.Turns.{both_lie}
+use Rattle.slices.proofs.PartLaws.{part_range, both_lie}
 use Rattle.slices.proofs.compare.Goals as goal
 
 pub returns-then-lies : goal.returns-then-lies

@@ -1,9 +1,6 @@
--- The invariant: what is left to compare decides the answer. Assumes nothing.
-use Rattle.std.proofs.Common.{◌≡◌}
-use Rattle.slices.specs.Part.{part}
-use Rattle.slices.specs.Order.{order}
-use Rattle.slices.proofs.Turns.{comparing}
+-- The invariant: the bytes so far are the same. Assumes nothing.
+use Rattle.std.proofs.Common.{◌≡◌, ◌<◌, ◌+◌, ℕ, get_or}
 use Rattle.slices.proofs.compare_past.Given as goal
 
 abbrev pub invariant-loop-k : goal.invariant-loop-k
-invariant-loop-k l = order (part l.n l.i l.a) (part l.n l.j l.b) ≡ comparing l.a l.i l.b l.j l.n l.k
+invariant-loop-k l = (m : ℕ) → m < l.k → get_or l.a (l.i + m) 0 ≡ get_or l.b (l.j + m) 0

@@ -1,11 +1,7 @@
 -- By the invariant: what is left to compare decides the answer. Assumes nothing.
-use Rattle.std.proofs.Common.{refl, sym, ap₂, ◌≡◌, ◌∙◌, length, arith}
-use Rattle.std.specs.Ordering.{nat_cmp}
-use Rattle.std.proofs.lemmas.Iterator.{YieldsList-from_slice}
-use Rattle.std.proofs.lemmas.Iterator.Search.{cmp_from_yields_List}
+use Rattle.std.proofs.Common.{sym, ap₂, ◌∙◌, arith}
 use Rattle.slices.specs.Order.{order}
-use Rattle.slices.proofs.StdLaws.{order_std}
-use Rattle.slices.proofs.Turns.{stops, goes}
+use Rattle.slices.proofs.StdLaws.{stops, goes}
 use Rattle.slices.proofs.WordLaws.{by_words}
 use Rattle.slices.proofs.compare_words.Goals as goal
 
@@ -22,6 +18,4 @@ loop-p-preserved c =
     c.loop-p.invariant ∙ by_words c.loop-p.x.now c.loop-p.y.now _ _ (omega (arith, x.2)) (omega (arith, y.2)) x.0 y.0 c.compare_word-way.ensures ∙ goes _ _ (sym c.is_ne.ensures ∙ c.if-is_ne.false) ∙ ap₂ order (sym x.1) (sym y.1)
 
 pub returns : goal.returns
-returns c =
-    cmp_from_yields_List (λ x y. y ≡ x) _ nat_cmp _ c.cmp.ensures.ran (YieldsList-from_slice c.loop-p.x.now cc) (λ it e. YieldsList-from_slice c.loop-p.y.now cc) (λ x y. refl)
-    ∙ order_std c.loop-p.x.now c.loop-p.y.now ∙ sym c.loop-p.invariant
+returns c = c.compare_bytes.ensures ∙ sym c.loop-p.invariant

@@ -1,8 +1,7 @@
 -- What is copied is the run, to places that are there. Assumes nothing.
 use Rattle.std.proofs.Common.{◌∙◌}
-use Rattle.slices.proofs.PartLaws.{part_range}
+use Rattle.slices.proofs.PartLaws.{part_range, both_lie}
 use Rattle.slices.proofs.WriteLaws.{put_run}
-use Rattle.slices.proofs.Turns.{both_lie}
 use Rattle.slices.proofs.copy.Goals as goal
 
 pub returns-then-lies : goal.returns-then-lies
