@@ -17,25 +17,25 @@ pub(crate) struct Stopped {
     pub fault: Fault,
 }
 
-// Correction n stops at a line, by the offset of its record.
-fn at_line(n: usize, at: u32) -> Stopped
-    ensures { result ≡ record { refusal = does_not_apply n; fault = fault_as (wrong_line at) } }
-{
-    let mut fault = no_fault();
-    fault.at = at;
-    Stopped {
-        refusal: Refusal::does_not_apply(n),
-        fault,
+impl Stopped {
+    // Correction n stops at a line, which is told by the offset of its record.
+    fn at_line(n: usize, at: u32) -> Self
+        ensures { result ≡ record { refusal = does_not_apply n; fault = fault_as (wrong_line at) } }
+    {
+        Stopped {
+            refusal: Refusal::does_not_apply(n),
+            fault: Fault { at, ..no_fault() },
+        }
     }
-}
 
-// Correction n stops at a route.
-fn at_route(n: usize, fault: Fault) -> Stopped
-    ensures { result ≡ record { refusal = route_refused n fault.inner.number; fault = fault } }
-{
-    Stopped {
-        refusal: Refusal::route_refused(n, fault.inner.number),
-        fault,
+    // Correction n stops at a route, by the refusal of that.
+    fn at_route(n: usize, fault: Fault) -> Self
+        ensures { result ≡ record { refusal = route_refused n fault.inner.number; fault = fault } }
+    {
+        Stopped {
+            refusal: Refusal::route_refused(n, fault.inner.number),
+            fault,
+        }
     }
 }
 
@@ -43,9 +43,9 @@ fn at_route(n: usize, fault: Fault) -> Stopped
 pub(crate) fn correct(state: &mut State, lines: Lines, n: usize) -> Result<(), Stopped>
     ensures { Comes state.old (corrected_by state.old.frozen state.old.log state.old.judging n lines.entry.entries.now state.old.sources) result state.new }
 {
-    apply_lines(state, lines).map_err(|at| at_line(n, at))?;
+    apply_lines(state, lines).map_err(|at| Stopped::at_line(n, at))?;
     if state.judges() {
-        judge_touched(state, lines).map_err(|fault| at_route(n, fault))?;
+        judge_touched(state, lines).map_err(|fault| Stopped::at_route(n, fault))?;
     }
     Ok(())
 }

@@ -73,7 +73,7 @@ fn refused_run(refusal: Refusal, fault: Fault) -> Ran
             count: 0,
             at: [0u32; MOST_RECORDS],
         },
-        fault: fault,
+        fault,
     }
 }
 

@@ -1,12 +1,6 @@
 -- By the invariant: the lines that are left, applied to the state so far, give the answer. Assumes nothing.
-use Rattle.applying.proofs.ApplyLaws.{applying_starts, applying_stops, applying_goes_on, applying_ends}
+use Rattle.applying.proofs.ApplyLaws.{applying_stops, applying_goes_on, applying_ends}
 use Rattle.applying.proofs.apply.apply_lines.Goals as goal
-
-pub loop-line-init : goal.loop-line-init
-loop-line-init c = applying_starts _ _
-
-pub apply_line-requires : goal.apply_line-requires
-apply_line-requires c = c.args.lines.within c.loop-line.line-index
 
 pub returns-then-not-apply_line : goal.returns-then-not-apply_line
 returns-then-not-apply_line c = applying_stops c.loop-line.invariant c.loop-line-test.true _ (rw c.if-not-apply_line.true at c.apply_line.ensures) c.apply_line.new.state

@@ -9,9 +9,6 @@ use mathlib.Core.Path.{sym, subst, ◌∙◌}
 use native.Mathlib.Omega.{arith}
 use Rattle.applying.proofs.judge.all_stand.Goals as goal
 
-pub source_of-source-requires : goal.source_of-source-requires
-source_of-source-requires c = c.args.lines.within c.loop-line.line-index
-
 pub loop-line-preserved-then-same_route : goal.loop-line-preserved-then-same_route
 loop-line-preserved-then-same_route c = let st = c.args.state.now in
     let inv = c.loop-line.invariant in

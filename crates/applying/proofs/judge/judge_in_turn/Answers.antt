@@ -3,7 +3,7 @@ use Rattle.refusals.specs.Table.{Verdict}
 use Rattle.applying.proofs.JudgeLaws.{end_within, route_refused_lem, route_stands, route_untouched, routes_end}
 use Rattle.applying.proofs.CorrectLaws.{route_fault}
 use Rattle.applying.proofs.ShiftLaws.{behind}
-use mathlib.Core.Path.{◌≡◌, refl, sym, ap, ◌∙◌}
+use mathlib.Core.Path.{◌≡◌, sym, ap, ◌∙◌}
 use mathlib.Core.List.{List, []}
 use Prim.Native.Nat.{ℕ, ◌-◌}
 use lib.ListN.{take, drop}
@@ -11,12 +11,6 @@ use Rattle.routes.specs.Sources.{sources_for}
 use Rattle.applying.specs.Apply.{refused_route}
 use native.Mathlib.Omega.{arith}
 use Rattle.applying.proofs.judge.judge_in_turn.Goals as goal
-
-pub loop-i-init : goal.loop-i-init
-loop-i-init c = (omega arith, refl)
-
-pub route_end-end-requires : goal.route_end-end-requires
-route_end-end-requires c = let n = rw c.sources-sources.ensures.sources at c.loop-i-test.true in omega (arith, n)
 
 pub slice_bounds-listed-end : goal.slice_bounds-listed-end
 slice_bounds-listed-end c = let same = c.sources-sources.ensures.sources in

@@ -1,15 +1,9 @@
 -- By the invariant: the lines that are left give the answer. Assumes nothing.
 use Rattle.applying.proofs.JudgeLaws.{touched_end, touched_found, touched_next}
-use mathlib.Core.Path.{refl, sym, ap, ◌∙◌}
+use mathlib.Core.Path.{sym, ap, ◌∙◌}
 use Prim.Native.Nat.{ℕ}
 use Rattle.applying.specs.Apply.{same_route}
 use Rattle.applying.proofs.judge.touches.Goals as goal
-
-pub loop-line-init : goal.loop-line-init
-loop-line-init c = refl
-
-pub source_of-requires : goal.source_of-requires
-source_of-requires c = c.args.lines.within c.loop-line.line-index
 
 pub returns-then-same_route : goal.returns-then-same_route
 returns-then-same_route c = let e = c.same_route.ensures ∙ ap (λ (s : ℕ). same_route c.args.state.now.frozen c.args.state.now.log s c.args.source) c.source_of.ensures in

@@ -11,9 +11,6 @@ loop-source-init c = known_nothing _ _ 932
 pub loop-source-preserved : goal.loop-source-preserved
 loop-source-preserved c = known_learned _ _ c.loop-source.invariant _ c.learn.ensures
 
-pub source_of-requires : goal.source_of-requires
-source_of-requires c = c.args.lines.within c.loop-line.line-index
-
 pub loop-line-preserved : goal.loop-line-preserved
 loop-line-preserved c =
     let known = Known c.args.texts.frozen.now c.args.texts.log.now in

@@ -1,12 +1,9 @@
 -- By the invariant: the corrections that are left, over the state so far, give the answer. Assumes nothing.
-use Rattle.applying.proofs.RunLaws.{leading_within, running_starts, running_ends, running_skips, running_stops, running_goes_on}
+use Rattle.applying.proofs.RunLaws.{leading_within, running_ends, running_skips, running_stops, running_goes_on}
 use Rattle.std.proofs.lemmas.Result.{err_from_is_err_and}
 use native.Mathlib.Omega.{arith}
 use Prim.Native.Nat.{◌+◌}
 use Rattle.applying.proofs.series.run_marked.Goals as goal
-
-pub loop-n-init : goal.loop-n-init
-loop-n-init c = running_starts _ _ _ _
 
 pub split_at-requires : goal.split_at-requires
 split_at-requires c = omega (arith, leading_within (c.loop-n.n + 1) c.loop-n.rest.entries.now, c.leading_lines.ensures)

@@ -1,11 +1,7 @@
 -- By the invariant: the places of the first i rise. Assumes nothing.
 use Rattle.applying.proofs.RisingLaws.{tested_next, tested_all}
 use mathlib.Core.Bool.{false≢true}
-use native.Mathlib.Omega.{arith}
 use Rattle.applying.proofs.state.rises.Goals as goal
-
-pub loop-i-init : goal.loop-i-init
-loop-i-init c = λ j k. absurd (omega arith)
 
 pub returns-then-not_before : goal.returns-then-not_before
 returns-then-not_before c = λ t. absurd (false≢true t)
