@@ -96,9 +96,7 @@ pub fn check_answer<'a>(frozen: &'a [u8], log: &'a [u8], out: &mut [u8]) -> Answ
     }
     slices::clear(out);
     match counts(frozen, log) {
-        Ok((records, corrections)) => {
-            Ok(put_counts(b"ok", records, corrections, out))
-        }
+        Ok((records, corrections)) => { Ok(put_counts(b"ok", records, corrections, out)) }
         Err(r) => Ok(put_no(r, out)),
     }
 }

@@ -152,7 +152,10 @@ fn print_explained(to: &mut impl Write, explained: &Result<Explained, Failure>) 
         Ok(explained) => {
             write!(to, "\tyes\t{}", explained.count)?;
             let reasons = explained.taken.iter().zip(&explained.relying);
-            for ((number, relying), source) in reasons.zip(&explained.source).take(explained.count) {
+            for ((number, relying), source) in reasons
+                .zip(&explained.source)
+                .take(explained.count)
+            {
                 write!(to, "\t{number}\t{relying}\t{source}")?;
             }
             Ok(())

@@ -78,9 +78,7 @@ fn print_end(to: &mut impl Write, tail: Tail, case: &[u8], written: [u8; 140]) -
     write!(
         to,
         "\t{}\t{}\t{}",
-        tail.record_number,
-        tail.cycle.year,
-        tail.cycle.number
+        tail.record_number, tail.cycle.year, tail.cycle.number
     )?;
     let same = slices::same(case, 0, &written, 0, 133);
     let past = slices::same(&written, 133, &[0u8; 7], 0, 7);
