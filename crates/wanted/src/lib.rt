@@ -5,8 +5,9 @@ ghost use Rattle.std.specs.Prelude.{◌≡◌, ◌+◌, drop};
 ghost use Rattle.wanted.specs.Numbers.{to_line_feed, number_at, wanted_of};
 
 use digits::{all_digits, number};
+use slices::line_feed;
 
-// The numbers in their order, and zeros past the count.
+// The numbers in their order, and zeros past the count. The count stays beside them: memory is fixed, and `wanted_of` speaks of both.
 #[derive(Clone, Copy)]
 pub struct Wanted {
     pub count: usize,
@@ -40,26 +41,24 @@ pub fn numbers(text: &[u8]) -> Wanted
 {
     let mut found = Wanted {
         count: 0,
-        at: [0u32; 201],
+        at: [0; 201],
     };
-    let mut i: usize = 0;
+    let mut i = 0;
     for k in 0..200 {
         if text.len() <= i {
             return found;
         }
-        let end = slices::line_feed(text, i);
-        let number = line_number(text, i, end);
-        found.at[k] = number;
+        let end = line_feed(text, i);
+        found.at[k] = line_number(text, i, end);
         found.count = k + 1;
         if text.len() <= end {
             return found;
         }
         i = end + 1;
     }
-    if text.len() <= i {
-        return found;
+    if i < text.len() {
+        found.at[200] = 0;
+        found.count = 201;
     }
-    found.at[200] = 0;
-    found.count = 201;
     found
 }
