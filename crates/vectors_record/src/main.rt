@@ -78,9 +78,7 @@ fn print_end(to: &mut impl Write, tail: Tail, case: &[u8], written: [u8; 140]) -
     write!(
         to,
         "\t{}\t{}\t{}",
-        tail.record_number,
-        tail.cycle.year,
-        tail.cycle.number
+        tail.record_number, tail.cycle.year, tail.cycle.number
     )?;
     let same = slices::same(case, 0, &written, 0, 133);
     let past = slices::same(&written, 133, &[0u8; 7], 0, 7);
@@ -137,6 +135,7 @@ fn print_case(to: &mut impl Write, case: &[u8]) -> io::Result<()> {
     }
 }
 
+// Where a case begins is told by the one before it, so that no range has their places.
 fn print_cases(to: &mut impl Write, set: &[u8]) -> io::Result<()> {
     let mut at = 0;
     while at < set.len() {
