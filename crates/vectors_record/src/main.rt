@@ -135,6 +135,7 @@ fn print_case(to: &mut impl Write, case: &[u8]) -> io::Result<()> {
     }
 }
 
+// Where a case begins is told by the one before it, so that no range has their places.
 fn print_cases(to: &mut impl Write, set: &[u8]) -> io::Result<()> {
     let mut at = 0;
     while at < set.len() {
