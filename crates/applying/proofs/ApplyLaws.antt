@@ -1,6 +1,6 @@
 -- Laws of lines applied one after the other, as the loop that applies them asks for them.
 -- Assumes nothing.
-use mathlib.Core.Path.{◌≡◌, refl, sym, ap, subst, ◌∙◌}
+use mathlib.Core.Path.{◌≡◌, sym, ap, subst, ◌∙◌}
 use mathlib.Core.Bool.{true, false}
 use mathlib.Core.List.{List, [], ◌∷◌}
 use mathlib.Core.Option.{some, none, bind}
@@ -46,9 +46,6 @@ pub record Applying (old : Standing) (es : List Entry) (now : Standing) (k : ℕ
   pub same : now ≡ record old { sources = now.sources }
   pub lines : lines_applied old.frozen old.log es old.sources ≡ lines_applied old.frozen old.log (drop k es) now.sources
   pub fails : fails_at old.frozen old.log es old.sources ≡ fails_at old.frozen old.log (drop k es) now.sources
-
-pub applying_starts : (old : Standing) (es : List Entry) → Applying old es old 0
-applying_starts old es = record { same = refl; lines = refl; fails = refl }
 
 module _ {old now : Standing} {es : List Entry} {k : ℕ} (a : Applying old es now k) where
   pub applying_ends : length es ≤ k → Applies old es (Ok tt) now

@@ -1,6 +1,6 @@
 -- What a correction comes to, a law for each way that it ends.
 -- Assumes nothing.
-use mathlib.Core.Path.{◌≡◌, refl, sym, ap, subst, ◌∙◌}
+use mathlib.Core.Path.{◌≡◌, sym, ap, subst, ◌∙◌}
 use mathlib.Core.Bool.{true, false, false≢true}
 use mathlib.Core.List.{List}
 use mathlib.Core.Option.{some}
@@ -17,10 +17,6 @@ use Rattle.applying.specs.Apply.{fails_at, refused_route}
 use Rattle.applying.specs.Correct.{no_more, wrong_line, wrong_route, after_lines, corrected_by, fault_as, Applies, Judges, Comes}
 use Rattle.applying.specs.declared.Fault.{Fault}
 use Rattle.applying.specs.declared.correct.Stopped.{Stopped}
-
-pub nothing_wrong : fault_as (wrong_line 0) ≡ fault_as no_more
-unfolding fault_as
-nothing_wrong = refl
 
 -- nothing that is wrong, with the offset of a line put in
 pub line_fault : (at : ℕ) {z : Fault} → z ≡ fault_as no_more → ◌≡◌ {A = Fault} (record z { at = at }) (fault_as (wrong_line at))

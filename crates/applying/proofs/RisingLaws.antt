@@ -210,12 +210,6 @@ module _ (f l : List ℕ) where
         subst (Come (not_before f l rec) 0 xs 0) q
         (goes_on (not_before f l rec) 0 xs 0 m (come_by m (omega arith) (λ j k. e j (omega arith))) (omega arith) (e m (omega arith)))
 
-    -- past one that stands before the record the search goes on
-    pub come_past : (m : ℕ) → m < length xs → not_before f l rec (get_or xs m 0) ≡ false → Come (not_before f l rec) 0 xs 0 (m + 1)
-    come_past m h e =
-        come_by (m + 1) (omega arith) (λ j k.
-        ⊎_elim (λ (s : j < m). before_too j m s h e) (λ (s : j ≡ m). subst (λ (i : ℕ). not_before f l rec (get_or xs i 0) ≡ false) (sym s) e) (below j m k))
-
 -- ---- as the code asks for it
 
 -- the places of the first i rise

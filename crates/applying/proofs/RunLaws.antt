@@ -5,7 +5,6 @@ use mathlib.Core.Bool.{Bool, true, false, cond, not}
 use mathlib.Core.List.{List, [], ◌∷◌}
 use Prim.Native.Nat.{ℕ, suc, ◌+◌, ◌-◌, ◌≤◌, ◌<◌}
 use native.Mathlib.Omega.{arith}
-use native.Mathlib.Nat.{sub-zero}
 use lib.Dec.{eqb}
 use lib.ListN.{length, take, drop}
 use Rattle.std.specs.Prelude.{Ok, Err}
@@ -48,9 +47,6 @@ leading_first n (e ∷ es) = by (eqb e.correction n) (leading_first n es)
 pub record Running (T : Numbers) (old : Standing) (total : ℕ) (es : List Entry) (now : Standing) (n : ℕ) (rest : List Entry) : Type 0 where
   pub same : now ≡ record old { sources = now.sources }
   pub left : ran_by old.judging old.frozen old.log T 1 (by_correction 1 total es) old.sources ≡ ran_by old.judging old.frozen old.log T (n + 1) (by_correction (n + 1) (total - n) rest) now.sources
-
-pub running_starts : (T : Numbers) (old : Standing) (total : ℕ) (es : List Entry) → Running T old total es old 0 es
-running_starts T old total es = record { same = refl; left = rw sub-zero }
 
 module _ {T : Numbers} {old : Standing} {total : ℕ} {es : List Entry} {now : Standing} {n : ℕ} {rest : List Entry} (r : Running T old total es now n rest) where
   abbrev whole : Outcome
