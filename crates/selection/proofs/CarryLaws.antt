@@ -30,8 +30,7 @@ use Rattle.applying.specs.Run.{by_correction, onward, ran, ran_by, marked}
 use Rattle.selection.specs.Reliance.{owners, reliances, Taken}
 use Rattle.selection.specs.Pick.{Reads, Opens, length_stage, if_accepted, opened, wanted_stage, everything, members_from, members_as, refused_by, picked, judged_first, ran_first, outcome_verdict, carried, taken_of, pick_by, outcome_of, pick_from, pick_of, picked_as}
 use Rattle.selection.specs.Failing.{line_at, failure_with, failure_by, failure_as, judged_then, failure_of, settled, settled_from, settled_of}
-use Rattle.selection.specs.declared.choosing.Chosen.{Chosen}
-use Rattle.selection.specs.Reasons.{Chooses, reasons_by, unless_stopped, reasons_from, reasons_of, reasons_with, reasons_as}
+use Rattle.selection.specs.Reasons.{reasons_by, unless_stopped, reasons_from, reasons_of, reasons_with, reasons_as}
 use Rattle.selection.specs.declared.Failure.{Failure}
 use Rattle.selection.specs.declared.carry.Members.{Members}
 use Rattle.applying.specs.declared.Ran.{Ran}
@@ -114,9 +113,9 @@ module _ (f l : List ℕ) {r : Refusal} (e : opened f l ≡ refused r) where
   unfolding failure_of failure_as line_at fault_as
   failing_not_opened = sym (ap (λ (o : Reading). failure_as l (outcome_of f l o)) e)
 
-  pub pick_not_opened : (ws : List ℕ) → pick_of f l ws ≡ refused_by r
+  pub pick_not_opened : (ws : List ℕ) → refused_by r ≡ pick_of f l ws
   unfolding pick_of
-  pick_not_opened ws = ap (pick_from f l ws) e
+  pick_not_opened ws = sym (ap (pick_from f l ws) e)
 
   pub reasons_not_opened : (ws : List ℕ) → Err (failure_by r) ≡ reasons_as l (settled_of f l ws) (reasons_of f l ws)
   unfolding settled_of reasons_of reasons_as line_at fault_as
@@ -257,14 +256,14 @@ module _ (f l ws : List ℕ) (n : ℕ) (es : List Entry) (q : opened f l ≡ sai
   settled_log e z = sym (z ∙ ap (λ (o : Reading). failure_as l (outcome_of f l o)) q ∙ rw e)
 
   -- A refusal is that of the pick, and there are no reasons; otherwise the pick is what the corrections taken come to.
-  pub settled_refused : {x : Failure} → failure_as l (settled f l ws n es) ≡ Err x → pick_of f l ws ≡ refused_by x.refusal
+  pub settled_refused : {x : Failure} → failure_as l (settled f l ws n es) ≡ Err x → refused_by x.refusal ≡ pick_of f l ws
   unfolding settled pick_of
-  settled_refused {x} e = ap (pick_from f l ws) q ∙ by (wanted_stage n 1 ws) (carried f l everything n es) (outcome_refused l (settled f l ws n es) e)
+  settled_refused {x} e = by (wanted_stage n 1 ws) (carried f l everything n es) (outcome_refused l (settled f l ws n es) e) ∙ ap (pick_from f l ws) (sym q)
     where
-      by : (v : Verdict) (o : Outcome) → outcome_verdict (judged_then v o) ≡ Refused x.refusal → judged_first v (ran_first o (λ _. pick_by f l (taken_of f l n es ws) n es)) ≡ refused_by x.refusal
-      by (Ok _) (stopped r w) h = ap refused_by (same_refusal h)
+      by : (v : Verdict) (o : Outcome) → outcome_verdict (judged_then v o) ≡ Refused x.refusal → refused_by x.refusal ≡ judged_first v (ran_first o (λ _. pick_by f l (taken_of f l n es ws) n es))
+      by (Ok _) (stopped r w) h = ap refused_by (sym (same_refusal h))
       by (Ok _) (reached xs) h = absurd (never (sym h))
-      by (Err r) o h = ap refused_by (same_refusal h)
+      by (Err r) o h = ap refused_by (sym (same_refusal h))
 
   no_reason : (o : Outcome) {x : Failure} → failure_as l o ≡ Err x → Err x ≡ reasons_as l o (unless_stopped f l o (reasons_by f l n es ws))
   unfolding failure_as reasons_as
@@ -304,25 +303,6 @@ module _ (f l ws : List ℕ) (n : ℕ) (es : List Entry) (q : opened f l ≡ sai
     pub all_reasons : Ok (reasons_with (reasons_by f l n es ws)) ≡ reasons_as l (settled_of f l ws) (reasons_of f l ws)
     unfolding settled_of reasons_of
     all_reasons = some_reasons (settled f l ws n es) e ∙ ap (λ (o : Reading). reasons_as l (settled_from f l ws o) (reasons_from f l ws o)) (sym q)
-
--- what `choose` answers, once its failure is but the refusal
-module _ (f l ws : List ℕ) (index : Index) (q : opened f l ≡ said index.corrections (entries_from index 0 index.count)) (P : Failure → Refusal → Type 0) (r : Result Chosen Refusal) where
-  abbrev Answered : Result Chosen Failure → Type 0
-  Answered v =
-      MatchResult v (Chooses f l index ws) (λ x. failure_as l (settled f l ws index.corrections (entries_from index 0 index.count)) ≡ Err x)
-      × MatchResult v (λ x. r ≡ Ok x) (λ e. IsErrAnd r (P e))
-
-  pub chosen_stands : (v : Result Chosen Failure) → Answered v → {c : Chosen} → r ≡ Ok c → Chooses f l index ws c
-  chosen_stands (Ok d) (t, h) {c} e = let same : d ≡ c = cc in subst (Chooses f l index ws) same t
-  chosen_stands (Err x) (t, h) e = let p = err_from_is_err_and r h in let s : r ≡ Err p.0 = p.1 in let z : ◌≡◌ {A = ℕ} 0 1 = cc in absurd (omega arith)
-
-  pub chosen_refused : (v : Result Chosen Failure) → Answered v → {y : Refusal} → r ≡ Err y → ((x : Failure) → P x y → y ≡ x.refusal) → pick_of f l ws ≡ refused_by y
-  chosen_refused (Ok d) (t, h) e g = let z : ◌≡◌ {A = ℕ} 0 1 = cc in absurd (omega arith)
-  chosen_refused (Err x) (t, h) {y} e g =
-      let p = err_from_is_err_and r h in
-      let s : r ≡ Err p.0 = p.1 in
-      let same : p.0 ≡ y = cc in
-      settled_refused f l ws index.corrections (entries_from index 0 index.count) q t ∙ ap refused_by (sym (g x (subst (P x) same p.2)))
 
 -- what is marked is taken
 pub marks_taken : (f l ws marks : List ℕ) (index : Index) (r : Reads l index) {relied : List ℕ} → wanted_stage index.corrections 1 ws ≡ Accepted

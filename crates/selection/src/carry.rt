@@ -1,6 +1,6 @@
 // What the corrections taken make of the frozen records. `carry` assumes of its caller that what is marked is not refused, which is so of what
 // is taken from an accepted log; the rest assumes nothing.
-ghost use Rattle.std.specs.Prelude.{◌≡◌, [], ◌∷◌, ◌≤◌, ◌<◌, MatchResult};
+ghost use Rattle.std.specs.Prelude.{◌≡◌, [], ◌∷◌, ◌≤◌, ◌<◌};
 ghost use Rattle.applying.specs.Apply.{lines_of};
 ghost use Rattle.applying.specs.Run.{marked};
 ghost use Rattle.selection.specs.Pick.{Carries, members_from, with_members, members_as, refused_by, pick_by, pick_of, picked_as};
@@ -83,22 +83,14 @@ impl Opened<'_> {
         }
     }
 
-    // The pick: 12, then the whole log; then the wanted corrections and those that they rely on, alone.
-    fn pick(&self, wanted: &[u32]) -> Result<Picked, Refusal>
-        ensures { MatchResult result
-            (λ p. p ≡ picked_as (pick_of self.now.texts.frozen.now self.now.texts.log.now wanted.now))
-            (λ r. pick_of self.now.texts.frozen.now self.now.texts.log.now wanted.now ≡ refused_by r) }
+    // The pick: 12, then the whole log; then the wanted corrections and those that they rely on, alone. A refusal becomes a pick here, and does
+    // not go on by `?`: a pick that came out of a Result would have its sources copied once more.
+    pub(crate) fn pick(&self, wanted: &[u32]) -> Picked
+        ensures { result ≡ picked_as (pick_of self.now.texts.frozen.now self.now.texts.log.now wanted.now) }
     {
-        let chosen = self.choose(wanted).map_err(|failure| failure.refusal)?;
-        Ok(self.carry(&chosen.marks))
+        match self.choose(wanted) {
+            Ok(chosen) => self.carry(&chosen.marks),
+            Err(failure) => refused_pick(failure.refusal),
+        }
     }
-}
-
-// The same, or the refusal of what can't be opened.
-pub(crate) fn pick_from(texts: Texts<'_>, wanted: &[u32]) -> Result<Picked, Refusal>
-    ensures { MatchResult result (λ p. p ≡ picked_as (pick_of texts.entry.frozen.now texts.entry.log.now wanted.now))
-        (λ r. pick_of texts.entry.frozen.now texts.entry.log.now wanted.now ≡ refused_by r) }
-{
-    let opened = Opened::new(texts)?;
-    opened.pick(wanted)
 }

@@ -20,7 +20,7 @@ ghost use Rattle.selection.specs.Failing.{failure_of, settled_of};
 ghost use Rattle.selection.specs.Reasons.{reasons_of, reasons_as};
 
 use applying::Fault;
-use carry::{pick_from, refused_pick};
+use carry::refused_pick;
 use corrections::MOST_CORRECTIONS;
 use file::write_records;
 use opening::Opened;
@@ -80,8 +80,8 @@ pub fn check_log<'a>(frozen: &'a [u8], log: &'a [u8]) -> Verdict
 pub fn pick<'a>(frozen: &'a [u8], log: &'a [u8], wanted: &[u32]) -> Picked
     ensures { result ≡ picked_as (pick_of frozen.now log.now wanted.now) }
 {
-    match pick_from(Texts { frozen, log }, wanted) {
-        Ok(picked) => picked,
+    match Opened::new(Texts { frozen, log }) {
+        Ok(opened) => opened.pick(wanted),
         Err(refusal) => refused_pick(refusal),
     }
 }
