@@ -9,7 +9,7 @@ use native.Mathlib.Omega.{arith}
 use lib.Dec.{leb}
 use lib.ListN.{length, get_or-eq_default, take, drop}
 use borrow.Author.Tests.{le-leb, lt-leb, leb-true}
-use Rattle.std.specs.Prelude.{Ok, Err}
+use Rattle.std.specs.Prelude.{Result, Ok, Err}
 use Rattle.std.specs.List.{AllWithin, HoldsAt}
 use Rattle.slices.proofs.Cases.{and_left, and_right, both}
 use Rattle.refusals.specs.Table.{too_many_records, log_too_long, Accepted, Refused}
@@ -25,10 +25,9 @@ use Rattle.applying.specs.State.{Standing}
 use Rattle.applying.specs.Apply.{entry_at, entries_from, WithinLog, Within}
 use Rattle.applying.specs.Correct.{Outcome, no_more, fault_as, Comes}
 use Rattle.applying.specs.Run.{by_correction, ran_by}
-use Rattle.applying.specs.Bounds.{all_within, bound_stage, ran_over_by, refused_run, ran_as}
+use Rattle.applying.specs.Bounds.{all_within, bound_stage, ran_over_by, ran_as}
 use Rattle.applying.specs.declared.Fault.{Fault}
-use Rattle.applying.specs.declared.Ran.{Ran}
-use Rattle.applying.specs.declared.correct.Stopped.{Stopped}
+use Rattle.applying.specs.declared.Stopped.{Stopped}
 use Rattle.applying.proofs.ApplyLaws.{line_next}
 
 -- ---- the bounds
@@ -111,22 +110,21 @@ passes index state b = rw (le-leb state.count 480 b.records, le-leb index.count 
 -- ---- the run
 
 -- what a run that stops, and one that stands, is given as
-pub ran_refused : (st : Standing) {o : Outcome} (s : Stopped) (any : Standing) → Comes st o (Err s) any → {x : Ran} → x ≡ refused_run s.refusal s.fault → x ≡ ran_as o
+pub ran_refused : (st : Standing) {o : Outcome} (s : Stopped) (any : Standing) → Comes st o (Err s) any → Err s ≡ ran_as o
 unfolding ran_as
-ran_refused st s any g e = e ∙ ap (refused_run s.refusal) g.2 ∙ rw g.1
+ran_refused st s any g = ap (λ (z : Fault). Err (record { refusal = s.refusal; fault = z })) g.2 ∙ rw g.1
 
-pub ran_stands : (st new : Standing) {o : Outcome} → Comes st o (Ok tt) new → {records : Sources} {z : Fault} → records ≡ sources_for new.sources → z ≡ fault_as no_more
-    → record { verdict = Accepted; records = records; fault = z } ≡ ran_as o
+pub ran_stands : (st new : Standing) {o : Outcome} → Comes st o (Ok tt) new → {records : Sources} → records ≡ sources_for new.sources → Ok records ≡ ran_as o
 unfolding ran_as
-ran_stands st new g e z = rw (e, z, g.0)
+ran_stands st new g e = rw (e, g.0)
 
 -- a run over any index and sources, within their bounds and without
 module _ (judging : Bool) (f l : List ℕ) (T : Numbers) (index : Index) (state : Sources) where
-  pub run_unbounded : {r : Refusal} {x : Ran} {z : Fault} → bound_stage index state ≡ Refused r → z ≡ fault_as no_more → x ≡ refused_run r z → x ≡ ran_as (ran_over_by judging f l T index state)
+  pub run_unbounded : {r : Refusal} {x : Stopped} → bound_stage index state ≡ Refused r → x ≡ record { refusal = r; fault = fault_as no_more } → Err x ≡ ran_as (ran_over_by judging f l T index state)
   unfolding ran_over_by ran_as
-  run_unbounded {r} q n g = g ∙ ap (refused_run r) n ∙ rw q
+  run_unbounded q g = rw (g, q)
 
-  pub run_bounded : {x : Ran} → bound_stage index state ≡ Accepted → x ≡ ran_as (ran_by judging f l T 1 (by_correction 1 index.corrections (entries_from index 0 index.count)) (in_use state))
+  pub run_bounded : {x : Result Sources Stopped} → bound_stage index state ≡ Accepted → x ≡ ran_as (ran_by judging f l T 1 (by_correction 1 index.corrections (entries_from index 0 index.count)) (in_use state))
       → x ≡ ran_as (ran_over_by judging f l T index state)
   unfolding ran_over_by
   run_bounded q g = g ∙ rw q

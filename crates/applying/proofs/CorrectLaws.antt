@@ -16,7 +16,7 @@ use Rattle.applying.specs.State.{Standing}
 use Rattle.applying.specs.Apply.{fails_at, refused_route}
 use Rattle.applying.specs.Correct.{no_more, wrong_line, wrong_route, after_lines, corrected_by, fault_as, Applies, Judges, Comes}
 use Rattle.applying.specs.declared.Fault.{Fault}
-use Rattle.applying.specs.declared.correct.Stopped.{Stopped}
+use Rattle.applying.specs.declared.Stopped.{Stopped}
 
 -- nothing that is wrong, with the offset of a line put in
 pub line_fault : (at : ℕ) {z : Fault} → z ≡ fault_as no_more → ◌≡◌ {A = Fault} (record z { at = at }) (fault_as (wrong_line at))

@@ -16,7 +16,7 @@ use Rattle.applying.specs.State.{Standing}
 use Rattle.applying.specs.Apply.{fails_at}
 use Rattle.applying.specs.Correct.{Outcome, stopped, reached, after_lines, corrected_by, corrected_if, Comes}
 use Rattle.applying.specs.Run.{leading_lines, by_correction, onward, ran_by}
-use Rattle.applying.specs.declared.correct.Stopped.{Stopped}
+use Rattle.applying.specs.declared.Stopped.{Stopped}
 use Rattle.applying.proofs.RisingLaws.{not_stopped, corrected_lines}
 
 -- ---- where the lines of a correction end

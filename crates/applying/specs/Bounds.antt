@@ -12,9 +12,8 @@ use Rattle.history.specs.Sets.{Numbers}
 use Rattle.applying.specs.Apply.{lines_of}
 use Rattle.applying.specs.Correct.{no_more, Outcome, stopped, reached, fault_as}
 use Rattle.applying.specs.Run.{corrections_of, ran_by}
-use Rattle.applying.specs.declared.Fault.{Fault}
 use Rattle.applying.specs.declared.lines.Lines.{Lines}
-use Rattle.applying.specs.declared.Ran.{Ran}
+use Rattle.applying.specs.declared.Stopped.{Stopped}
 
 -- every line lies within the longest log
 unfoldable pub all_within : List Entry → Bool
@@ -49,9 +48,6 @@ abbrev pub Bounds : Index → Sources → Result Lines Refusal → Type 0
 Bounds index state (Ok lines) = (bound_stage index state ≡ Accepted) × (state.count ≤ 480) × (lines.entries.now ≡ lines_of index)
 Bounds index state (Err r) = bound_stage index state ≡ Refused r
 
-abbrev pub refused_run : Refusal → Fault → Ran
-refused_run r fault = record { verdict = Refused r; records = sources_for []; fault = fault }
-
-unfoldable pub ran_as : Outcome → Ran
-ran_as (stopped r w) = refused_run r (fault_as w)
-ran_as (reached xs) = record { verdict = Accepted; records = sources_for xs; fault = fault_as no_more }
+unfoldable pub ran_as : Outcome → Result Sources Stopped
+ran_as (stopped r w) = Err (record { refusal = r; fault = fault_as w })
+ran_as (reached xs) = Ok (sources_for xs)

@@ -9,7 +9,7 @@ use Rattle.routes.specs.Sources.{sources_for}
 use Rattle.applying.specs.Apply.{lines_applied, fails_at, touched_judged, refused_route}
 use Rattle.applying.specs.State.{Standing}
 use Rattle.applying.specs.declared.Fault.{Fault}
-use Rattle.applying.specs.declared.correct.Stopped.{Stopped}
+use Rattle.applying.specs.declared.Stopped.{Stopped}
 
 -- What is wrong where a correction fails: for 10 the line that can't be applied, by the offset of its record in the log; for 11 the route, by
 -- the sources of its records, and the refusal of these alone. Of another refusal nothing is known but what it says itself.

@@ -1,23 +1,26 @@
 // One correction applied to a state: 10 where a line can't be applied, 11 where a route that its lines name is refused.
 ghost use Rattle.std.specs.Prelude.{◌≡◌};
 ghost use Rattle.refusals.specs.Table.{does_not_apply, route_refused};
-ghost use Rattle.applying.specs.Correct.{wrong_line, fault_as, corrected_by, Comes};
+ghost use Rattle.applying.specs.Correct.{no_more, wrong_line, fault_as, corrected_by, Comes};
 
 use crate::apply::apply_lines;
 use crate::judge::judge_touched;
 use crate::lines::Lines;
 use crate::state::State;
-use crate::{Fault, no_fault};
+use crate::{Fault, Stopped, no_fault};
 use refusals::Refusal;
 
-// Why a correction stops a run: its refusal, and what is wrong.
-#[derive(Clone, Copy)]
-pub(crate) struct Stopped {
-    pub refusal: Refusal,
-    pub fault: Fault,
-}
-
 impl Stopped {
+    // An index or sources that no log and no file has.
+    pub(crate) fn at_once(refusal: Refusal) -> Self
+        ensures { result ≡ record { refusal = refusal; fault = fault_as no_more } }
+    {
+        Stopped {
+            refusal,
+            fault: no_fault(),
+        }
+    }
+
     // Correction n stops at a line, which is told by the offset of its record.
     fn at_line(n: usize, at: u32) -> Self
         ensures { result ≡ record { refusal = does_not_apply n; fault = fault_as (wrong_line at) } }

@@ -15,13 +15,13 @@ ghost use Rattle.std.specs.Prelude.{◌≡◌, false};
 ghost use Rattle.applying.specs.Apply.{same_route};
 ghost use Rattle.applying.specs.Correct.{no_more, fault_as};
 ghost use Rattle.applying.specs.Run.{by_correction, ran_by, marked};
-ghost use Rattle.applying.specs.Bounds.{ran_over, ran_over_by, refused_run, ran_as};
+ghost use Rattle.applying.specs.Bounds.{ran_over, ran_over_by, ran_as};
 
 use bounds::bounds;
 use corrections::Index;
 use known::known_of;
 use lines::Lines;
-use refusals::{MOST_RECORDS, Refusal, Verdict};
+use refusals::{MOST_RECORDS, Refusal};
 use routes::{Sources, Texts, record_at};
 use series::run_marked;
 use state::{State, listed};
@@ -36,12 +36,10 @@ pub struct Fault {
     pub inner: Refusal,
 }
 
-// What some corrections come to: the refusal and what is wrong, or where the records lie that they leave; no records beside a refusal, and
-// zeros past the count.
+// Why corrections stop: the refusal, and what is wrong.
 #[derive(Clone, Copy)]
-pub struct Ran {
-    pub verdict: Verdict,
-    pub records: Sources,
+pub struct Stopped {
+    pub refusal: Refusal,
     pub fault: Fault,
 }
 
@@ -63,20 +61,6 @@ pub fn no_fault() -> Fault
     }
 }
 
-// What is left on a refusal: no records, and what is wrong.
-fn refused_run(refusal: Refusal, fault: Fault) -> Ran
-    ensures { result ≡ refused_run refusal fault }
-{
-    Ran {
-        verdict: Err(refusal),
-        records: Sources {
-            count: 0,
-            at: [0u32; MOST_RECORDS],
-        },
-        fault,
-    }
-}
-
 // Whether the records of two sources are of one route.
 pub fn same_route<'a>(frozen: &'a [u8], log: &'a [u8], a: u32, b: u32) -> bool
     ensures { result ≡ same_route frozen.now log.now a b }
@@ -94,20 +78,12 @@ pub fn is_marked(marks: &[u8], n: usize) -> bool
 }
 
 // Applies so many corrections, those that are marked, in their order, to a state.
-fn run_over(mut state: State, lines: Lines, total: usize, marks: &[u8]) -> Ran
+fn run_over(mut state: State, lines: Lines, total: usize, marks: &[u8]) -> Result<Sources, Stopped>
     ensures { result ≡ ran_as (ran_by state.entry.judging state.entry.frozen state.entry.log (marked marks.now) 1 (by_correction 1 total lines.entry.entries.now) state.entry.sources) }
 {
-    match run_marked(&mut state, lines, total, marks) {
-        Ok(()) => {
-            let records = listed(state.sources());
-            Ran {
-                verdict: Ok(()),
-                records,
-                fault: no_fault(),
-            }
-        }
-        Err(stopped) => refused_run(stopped.refusal, stopped.fault),
-    }
+    run_marked(&mut state, lines, total, marks)?;
+    let records = listed(state.sources());
+    Ok(records)
 }
 
 // Applies the marked corrections of an index in their order, and judges the routes that each names, or not.
@@ -118,14 +94,14 @@ fn run_by<'a>(
     index: Index,
     marks: &[u8],
     state: Sources,
-) -> Ran
+) -> Result<Sources, Stopped>
     ensures { result ≡ ran_as (ran_over_by judging frozen.now log.now (marked marks.now) index state) }
 {
     let texts = Texts { frozen, log };
     let total = index.corrections;
     let lines = match bounds(&index, &state) {
         Ok(lines) => lines,
-        Err(refusal) => return refused_run(refusal, no_fault()),
+        Err(refusal) => return Err(Stopped::at_once(refusal)),
     };
     if !judging {
         return run_over(State::new(texts, None, state), lines, total, marks);
@@ -136,7 +112,13 @@ fn run_by<'a>(
 
 // Applies the marked corrections of an index in their order: 10 where a line can't be applied, 11 where a route that a correction names is
 // refused after it. First of all 2 where more than 480 sources count, and 13 where the index tells of more than any log has.
-pub fn run<'a>(frozen: &'a [u8], log: &'a [u8], index: Index, marks: &[u8], state: Sources) -> Ran
+pub fn run<'a>(
+    frozen: &'a [u8],
+    log: &'a [u8],
+    index: Index,
+    marks: &[u8],
+    state: Sources,
+) -> Result<Sources, Stopped>
     ensures { result ≡ ran_as (ran_over frozen.now log.now (marked marks.now) index state) }
 {
     run_by(true, frozen, log, index, marks, state)
@@ -149,7 +131,7 @@ pub fn run_unjudged<'a>(
     index: Index,
     marks: &[u8],
     state: Sources,
-) -> Ran
+) -> Result<Sources, Stopped>
     ensures { result ≡ ran_as (ran_over_by false frozen.now log.now (marked marks.now) index state) }
 {
     run_by(false, frozen, log, index, marks, state)

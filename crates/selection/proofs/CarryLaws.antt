@@ -15,7 +15,7 @@ use Rattle.refusals.specs.declared.Refusal.{Refusal}
 use Rattle.refusals.proofs.VerdictLaws.{never, same_refusal}
 use Rattle.routes.specs.Files.{file_verdict}
 use Rattle.routes.specs.InTurn.{in_turn}
-use Rattle.routes.specs.Sources.{records, in_use, sources_of}
+use Rattle.routes.specs.Sources.{records, in_use, sources_of, sources_for}
 use Rattle.routes.specs.declared.Sources.{Sources}
 use Rattle.routes.proofs.SourceLaws.{own_count}
 use Rattle.history.specs.Sets.{Numbers}
@@ -33,7 +33,7 @@ use Rattle.selection.specs.Failing.{line_at, failure_with, failure_by, failure_a
 use Rattle.selection.specs.Reasons.{reasons_by, unless_stopped, reasons_from, reasons_of, reasons_with, reasons_as}
 use Rattle.selection.specs.declared.Failure.{Failure}
 use Rattle.selection.specs.declared.carry.Members.{Members}
-use Rattle.applying.specs.declared.Ran.{Ran}
+use Rattle.applying.specs.declared.Stopped.{Stopped}
 use Rattle.applying.proofs.BoundLaws.{ran_bound}
 use Rattle.applying.proofs.RunLaws.{unjudged}
 use Rattle.selection.proofs.GroupLaws.{read_by_correction}
@@ -174,14 +174,9 @@ pub mapped : {E X : Type 0} (v : Result (Unit {0}) E) (r : Result (Unit {0}) X) 
 mapped (Ok _) r P m f g = m ∙ f refl
 mapped (Err e) r P m f g = let p = err_from_is_err_and r m in p.1 ∙ g e p.0 refl p.2
 
-ran_verdict : (o : Outcome) → (ran_as o).verdict ≡ outcome_verdict o
-unfolding ran_as
-ran_verdict (stopped r w) = refl
-ran_verdict (reached xs) = refl
-
 -- ---- the whole log
 
-module _ (f l : List ℕ) (index : Index) (e : index_of (opened f l) ≡ Ok index) {s : Sources} (t : s ≡ sources_of f) (x : Ran)
+module _ (f l : List ℕ) (index : Index) (e : index_of (opened f l) ≡ Ok index) {s : Sources} (t : s ≡ sources_of f) (x : Result Sources Stopped)
     (g : x ≡ ran_as (ran_over f l (marked (replicate 201 1)) index s)) where
   ran_whole : x ≡ ran_as (outcome_of f l (opened f l))
   unfolding carried
@@ -192,31 +187,31 @@ module _ (f l : List ℕ) (index : Index) (e : index_of (opened f l) ≡ Ok inde
       ∙ carried_same f l (marked (replicate 201 1)) everything index.corrections (entries_from index 0 index.count) (λ i h. all_marked i (omega (arith, corrections_few l index r)))
       ∙ ap (outcome_of f l) (sym (opened_said f l index e)))
 
-  pub whole_refused : {r : Refusal} → x.verdict ≡ Refused r → {line : ℕ} → line ≡ line_at l x.fault.at
-      → Err (record { refusal = r; line = line; fault = x.fault }) ≡ failure_of f l
+  pub whole_refused : {y : Stopped} → x ≡ Err y → {line : ℕ} → line ≡ line_at l y.fault.at
+      → Err (record { refusal = y.refusal; line = line; fault = y.fault }) ≡ failure_of f l
   unfolding failure_of failure_as ran_as
-  whole_refused {r} v n = by (outcome_of f l (opened f l)) ran_whole v n
+  whole_refused {y} v n = by (outcome_of f l (opened f l)) ran_whole v n
     where
-      by : (o : Outcome) → x ≡ ran_as o → x.verdict ≡ Refused r → {line : ℕ} → line ≡ line_at l x.fault.at
-          → Err (record { refusal = r; line = line; fault = x.fault }) ≡ failure_as l o
+      by : (o : Outcome) → x ≡ ran_as o → x ≡ Err y → {line : ℕ} → line ≡ line_at l y.fault.at
+          → Err (record { refusal = y.refusal; line = line; fault = y.fault }) ≡ failure_as l o
       by (stopped q w) p h k =
-          let same : r ≡ q = same_refusal (sym h ∙ ap (λ (y : Ran). y.verdict) p) in
-          let bad : x.fault ≡ fault_as w = ap (λ (y : Ran). y.fault) p in
-          rw (k, same, bad)
-      by (reached xs) p h k = absurd (never (sym h ∙ ap (λ (y : Ran). y.verdict) p))
+          let p' : x ≡ Err (record { refusal = q; fault = fault_as w }) = p in
+          let same : y ≡ record { refusal = q; fault = fault_as w } = cc in
+          rw (k, same)
+      by (reached xs) p h k = let p' : x ≡ Ok (sources_for xs) = p in let z : ◌≡◌ {A = ℕ} 0 1 = cc in absurd (omega arith)
 
-  pub whole_stands : x.verdict ≡ Accepted → Ok tt ≡ failure_of f l
+  pub whole_stands : {ys : Sources} → x ≡ Ok ys → Ok tt ≡ failure_of f l
   unfolding failure_of failure_as ran_as
-  whole_stands v = by (outcome_of f l (opened f l)) ran_whole v
+  whole_stands {ys} v = by (outcome_of f l (opened f l)) ran_whole v
     where
-      by : (o : Outcome) → x ≡ ran_as o → x.verdict ≡ Accepted → Ok tt ≡ failure_as l o
-      by (stopped q w) p h = absurd (never (sym (ap (λ (y : Ran). y.verdict) p) ∙ h))
+      by : (o : Outcome) → x ≡ ran_as o → x ≡ Ok ys → Ok tt ≡ failure_as l o
+      by (stopped q w) p h = let p' : x ≡ Err (record { refusal = q; fault = fault_as w }) = p in let z : ◌≡◌ {A = ℕ} 0 1 = cc in absurd (omega arith)
       by (reached xs) p h = refl
 
 -- ---- the marked corrections alone
 
 -- Where they are not refused, a run that judges nothing comes to what they come to.
-module _ (f l : List ℕ) (T : Numbers) (index : Index) (r : Reads l index) {s : Sources} (e : s ≡ sources_of f) (x : Ran) (g : x ≡ ran_as (ran_over_by false f l T index s))
+module _ (f l : List ℕ) (T : Numbers) (index : Index) (r : Reads l index) {s : Sources} (e : s ≡ sources_of f) (x : Result Sources Stopped) (g : x ≡ ran_as (ran_over_by false f l T index s))
     (xs : List ℕ) (k : carried f l T index.corrections (entries_from index 0 index.count) ≡ reached xs) where
   left : x ≡ ran_as (reached xs)
   unfolding carried
@@ -225,12 +220,18 @@ module _ (f l : List ℕ) (T : Numbers) (index : Index) (r : Reads l index) {s :
       ∙ ap (λ (t : Sources). ran_by false f l T 1 (by_correction 1 index.corrections (entries_from index 0 index.count)) (in_use t)) e
       ∙ unjudged f l T 1 (by_correction 1 index.corrections (entries_from index 0 index.count)) (in_use (sources_of f)) xs k)
 
-  pub carry_stands : {m : Members} → m ≡ members_as (members_from T 1 index.corrections)
-      → record { verdict = Accepted; count = m.count; taken = m.at; records = x.records }
+  pub carry_sure : {y : Stopped} → x ≡ Err y → ⊥
+  unfolding ran_as
+  carry_sure h = let p : x ≡ Ok (sources_for xs) = left in let z : ◌≡◌ {A = ℕ} 0 1 = cc in omega arith
+
+  pub carry_stands : {ys : Sources} → x ≡ Ok ys → {m : Members} → m ≡ members_as (members_from T 1 index.corrections)
+      → record { verdict = Accepted; count = m.count; taken = m.at; records = ys }
       ≡ picked_as (ran_first (carried f l T index.corrections (entries_from index 0 index.count)) (picked (members_from T 1 index.corrections)))
   unfolding members_as picked_as ran_as
-  carry_stands a =
-      ap₂ (λ (y : Members) (z : Sources). record { verdict = Accepted; count = y.count; taken = y.at; records = z }) a (ap (λ (y : Ran). y.records) left)
+  carry_stands {ys} h a =
+      let p : x ≡ Ok (sources_for xs) = left in
+      let q : ys ≡ sources_for xs = cc in
+      ap₂ (λ (y : Members) (z : Sources). record { verdict = Accepted; count = y.count; taken = y.at; records = z }) a q
       ∙ ap (λ (o : Outcome). picked_as (ran_first o (picked (members_from T 1 index.corrections)))) (sym k)
 
 -- ---- what is settled once a file and a log are open

@@ -72,14 +72,17 @@ impl Opened<'_> {
             (pick_by self.now.texts.frozen.now self.now.texts.log.now (marked marks.now) self.now.index.corrections (lines_of self.now.index)) }
     {
         let Texts { frozen, log } = self.texts;
-        let new = run_unjudged(frozen, log, self.index, marks, sources_of(frozen));
+        let records = match run_unjudged(frozen, log, self.index, marks, sources_of(frozen)) {
+            Ok(records) => records,
+            Err(_) => unreachable!(),
+        };
         let members = members_of(marks, self.index.corrections);
         let taken = members.at;
         Picked {
             verdict: Ok(()),
             count: members.count,
             taken,
-            records: new.records,
+            records,
         }
     }
 

@@ -50,12 +50,14 @@ impl Opened<'_> {
         ensures { result ≡ failure_of self.now.texts.frozen.now self.now.texts.log.now }
     {
         let Texts { frozen, log } = self.texts;
-        let all = run(frozen, log, self.index, &[1; MARKS], sources_of(frozen));
-        all.verdict.map_err(|refusal| Failure {
-            refusal,
-            line: line_at(log, all.fault.at),
-            fault: all.fault,
-        })
+        match run(frozen, log, self.index, &[1; MARKS], sources_of(frozen)) {
+            Ok(_) => Ok(()),
+            Err(stopped) => Err(Failure {
+                refusal: stopped.refusal,
+                line: line_at(log, stopped.fault.at),
+                fault: stopped.fault,
+            }),
+        }
     }
 
     // Settles 12, then the whole log; then finds the wanted corrections and those that they rely on.

@@ -5,7 +5,7 @@ use Rattle.applying.specs.Run.{marked}
 use Rattle.applying.proofs.run_by.Goals as goal
 
 pub returns-in-Err : goal.returns-in-Err
-returns-in-Err c = run_unbounded _ _ _ _ _ _ (rw c.in-Err.is at c.bounds.ensures) c.no_fault.ensures c.refused_run.ensures
+returns-in-Err c = run_unbounded _ _ _ _ _ _ (rw c.in-Err.is at c.bounds.ensures) c.at_once.ensures
 
 pub returns-then-not-judging : goal.returns-then-not-judging
 returns-then-not-judging c = let b = rw c.in-Ok.is at c.bounds.ensures in

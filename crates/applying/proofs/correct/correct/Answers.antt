@@ -8,7 +8,7 @@ use Rattle.std.specs.Prelude.{Result}
 use Rattle.refusals.specs.Table.{does_not_apply, route_refused}
 use Rattle.applying.specs.Correct.{Applies, Judges, fault_as, wrong_line}
 use Rattle.applying.specs.declared.Fault.{Fault}
-use Rattle.applying.specs.declared.correct.Stopped.{Stopped}
+use Rattle.applying.specs.declared.Stopped.{Stopped}
 use Rattle.applying.proofs.correct.correct.Goals as goal
 
 pub returns-in_err-map_err : goal.returns-in_err-map_err
