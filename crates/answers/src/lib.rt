@@ -13,7 +13,7 @@ ghost use Rattle.answers.specs.Why.{why_answer};
 
 use corrections::{LONGEST_LOG, MOST_CORRECTIONS};
 use refusals::Refusal;
-use routes::LINE_WIDTH;
+use routes::{LINE_WIDTH, Texts};
 use texts::{put_counts, put_no, put_picked};
 use whys::put_explained;
 
@@ -111,5 +111,5 @@ pub fn why_answer<'a>(frozen: &'a [u8], log: &'a [u8], want: &[u8], out: &mut [u
     let wanted = wanted::numbers(want);
     let explained = selection::reasons(frozen, log, &wanted.at[..wanted.count]);
     slices::clear(out);
-    Ok(put_explained(frozen, log, explained, out))
+    Ok(put_explained(Texts { frozen, log }, explained, out))
 }

@@ -1,5 +1,6 @@
 // The pieces that lines are put together from, each written behind the one before it; what is past a buffer's end is dropped.
-// Assumes of its callers, all in this crate, offsets that are far from the last number there is.
+// Assumes of its callers, all in this crate, offsets that are far from the last number there is. The buffer and the offset stay two parameters:
+// in a struct that lends the buffer, what it holds at the end is known only by a name of the toolchain's own, and the proof did not close.
 ghost use Rattle.std.specs.Prelude.{◌+◌, ◌≤◌, length};
 ghost use Rattle.digits.specs.Decimal.{decimal};
 ghost use Rattle.answers.specs.Answers.{tabbed};

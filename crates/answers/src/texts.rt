@@ -46,11 +46,8 @@ fn put_taken(picked: Picked, out: &mut [u8], at: usize) -> usize
 {
     let count = picked.count;
     let mut end = at;
-    let mut i: usize = 0;
-    while i < count {
-        let n = picked.taken[i];
-        end = put_take(n as usize, out, end);
-        i += 1;
+    for i in 0..count {
+        end = put_take(picked.taken[i] as usize, out, end);
     }
     end
 }
@@ -60,11 +57,9 @@ pub(crate) fn put_picked(picked: Picked, out: &mut [u8]) -> usize
     requires { picked.count ≤ 200 }
     ensures { Wrote out.old out.new 0 (picked_text picked) result }
 {
-    let verdict = picked.verdict;
-    let records = picked.records;
-    match verdict {
+    match picked.verdict {
         Ok(()) => {
-            let end = put_counts(b"pick", picked.count, records.count, out);
+            let end = put_counts(b"pick", picked.count, picked.records.count, out);
             put_taken(picked, out, end)
         }
         Err(r) => put_no(r, out),

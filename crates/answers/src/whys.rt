@@ -8,9 +8,8 @@ use crate::pieces::{put_key, put_tabbed, put_word};
 use crate::texts::put_no;
 use applying::Fault;
 use refusals::{MOST_RECORDS, Refusal};
-use routes::{LINE_WIDTH, RECORD_WIDTH, record_at};
+use routes::{LINE_WIDTH, RECORD_WIDTH, Texts};
 use selection::{Explained, Failure, line_in};
-use slices::least;
 
 // Writes the line of a correction that is taken: wanted where none relies on it, else for the one that does, by the route of a record.
 fn put_reason(correction: usize, relying: usize, rec: &[u8], out: &mut [u8], at: usize) -> usize
@@ -30,20 +29,17 @@ fn put_reason(correction: usize, relying: usize, rec: &[u8], out: &mut [u8], at:
 }
 
 // Writes a line for each correction that is taken.
-fn put_reasons<'a>(frozen: &'a [u8], log: &'a [u8], explained: Explained, out: &mut [u8]) -> usize
+fn put_reasons(texts: Texts<'_>, explained: Explained, out: &mut [u8]) -> usize
     requires { explained.count ≤ 200 }
-    ensures { Wrote out.old out.new 0 (explained_lines frozen.now log.now explained explained.count) result }
+    ensures { Wrote out.old out.new 0 (explained_lines texts.entry.frozen.now texts.entry.log.now explained explained.count) result }
 {
     let count = explained.count;
-    let mut end: usize = 0;
-    let mut i: usize = 0;
-    while i < count {
-        let n = explained.taken[i];
-        let m = explained.relying[i];
-        let source = explained.source[i];
-        let rec = record_at(frozen, log, source);
-        end = put_reason(n as usize, m as usize, rec, out, end);
-        i += 1;
+    let mut end = 0;
+    for i in 0..count {
+        let taken = explained.taken[i] as usize;
+        let relying = explained.relying[i] as usize;
+        let rec = texts.record(explained.source[i]);
+        end = put_reason(taken, relying, rec, out, end);
     }
     end
 }
@@ -74,7 +70,7 @@ fn frozen_record<'a>(frozen: &'a [u8], refusal: Refusal) -> &'a [u8]
     if frozen.len() <= start {
         return &frozen[0..0];
     }
-    let end = least(start + RECORD_WIDTH, frozen.len());
+    let end = (start + RECORD_WIDTH).min(frozen.len());
     &frozen[start..end]
 }
 
@@ -102,10 +98,11 @@ fn put_inner(first: &[u8], inner: Refusal, out: &mut [u8], at: usize) -> usize
 }
 
 // Writes the refused route, its own refusal, and the record that this is about.
-fn put_route<'a>(frozen: &'a [u8], log: &'a [u8], fault: Fault, out: &mut [u8], at: usize) -> usize
+fn put_route(texts: Texts<'_>, fault: Fault, out: &mut [u8], at: usize) -> usize
     requires { at ≤ 1000 }
-    ensures { Wrote out.old out.new at (route_text frozen.now log.now fault) result }
+    ensures { Wrote out.old out.new at (route_text texts.entry.frozen.now texts.entry.log.now fault) result }
 {
+    let Texts { frozen, log } = texts;
     let route = fault.route;
     let inner = fault.inner;
     let first = line_in(frozen, log, route, 1);
@@ -115,15 +112,9 @@ fn put_route<'a>(frozen: &'a [u8], log: &'a [u8], fault: Fault, out: &mut [u8], 
 }
 
 // Writes what more is known of a refusal.
-fn put_more<'a>(
-    frozen: &'a [u8],
-    log: &'a [u8],
-    failure: Failure,
-    out: &mut [u8],
-    at: usize,
-) -> usize
+fn put_more(texts: Texts<'_>, failure: Failure, out: &mut [u8], at: usize) -> usize
     requires { at ≤ 1000 }
-    ensures { Wrote out.old out.new at (more_text frozen.now log.now failure) result }
+    ensures { Wrote out.old out.new at (more_text texts.entry.frozen.now texts.entry.log.now failure) result }
 {
     let number = failure.refusal.number;
     if number == Refusal::DOES_NOT_APPLY {
@@ -131,27 +122,26 @@ fn put_more<'a>(
     }
     if number == Refusal::ROUTE_REFUSED {
         let fault = failure.fault;
-        return put_route(frozen, log, fault, out, at);
+        return put_route(texts, fault, out, at);
     }
-    let rec = frozen_record(frozen, failure.refusal);
+    let rec = frozen_record(texts.frozen, failure.refusal);
     put_record(rec, out, at)
 }
 
 // Writes why corrections are taken, or the refusal.
-pub(crate) fn put_explained<'a>(
-    frozen: &'a [u8],
-    log: &'a [u8],
+pub(crate) fn put_explained(
+    texts: Texts<'_>,
     explained: Result<Explained, Failure>,
     out: &mut [u8],
 ) -> usize
     requires { IfOk explained (λ e. e.count ≤ 200) }
-    ensures { Wrote out.old out.new 0 (explained_text frozen.now log.now explained) result }
+    ensures { Wrote out.old out.new 0 (explained_text texts.entry.frozen.now texts.entry.log.now explained) result }
 {
     match explained {
-        Ok(explained) => put_reasons(frozen, log, explained, out),
+        Ok(explained) => put_reasons(texts, explained, out),
         Err(failure) => {
             let end = put_no(failure.refusal, out);
-            put_more(frozen, log, failure, out, end)
+            put_more(texts, failure, out, end)
         }
     }
 }

@@ -16,4 +16,4 @@ pub returns-then-frozen-start : goal.returns-then-frozen-start
 returns-then-frozen-start c = past_end _ _ c.if-not-number-place.false c.if-frozen-start.true
 
 pub returns : goal.returns
-returns c = its_part _ _ c.if-not-number-place.false c.least-end.ensures c.if-frozen-start.false
+returns c = its_part _ _ c.if-not-number-place.false c.min-end.ensures c.if-frozen-start.false

@@ -12,7 +12,7 @@ put_reason-end-requires c = let inv = c.loop-i.invariant in omega (arith, inv.2,
 
 pub loop-i-preserved : goal.loop-i-preserved
 loop-i-preserved c = let inv = c.loop-i.invariant in
-    (omega (arith, c.loop-i-test.true), inv.1, inv.2, omega (arith, inv.3, c.put_reason-end.ensures.1), lines_next _ _ _ _ inv.4 c.record_at-rec.ensures c.put_reason-end.ensures.0)
+    (omega (arith, c.loop-i-test.true), inv.1, inv.2, omega (arith, inv.3, c.put_reason-end.ensures.1), lines_next _ _ _ _ inv.4 c.record-rec.ensures c.put_reason-end.ensures.0)
 
 pub returns : goal.returns
 returns c = let inv = c.loop-i.invariant in
