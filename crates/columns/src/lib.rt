@@ -47,7 +47,7 @@ fn first_wrong(rec: &[u8]) -> Option<Row<'_>>
 }
 
 // The first column of the leftmost field of the record's own layout that holds nothing legal, or 0 where every field holds something
-// legal.
+// legal: a number and no Option, as `legal` and `no_legal_record`, the theorems on it, have it.
 #[tactic(auto, using(crate::proofs::Turns::said_of), unfolding(crate::specs::Kinds::first_bad_field))]
 pub fn first_bad(rec: &[u8]) -> usize
     ensures { result ≡ first_bad_field rec.now }

@@ -18,6 +18,7 @@ fn read_open<F: Read>(file: &mut F, into: &mut [u8]) -> usize
         (λ xs. 0 < result → take result into.new ≡ take (length into.old) xs) }
 {
     let mut done: usize = 0;
+    // Each read says how many bytes came, so that no range counts them.
     while done < into.len() {
         match file.read(&mut into[done..]) {
             Ok(0) => return done,

@@ -35,6 +35,8 @@ pub const MOST_RECORDS: usize = 480;
 
 const RECORD_TOO_MANY: usize = MOST_RECORDS + 1;
 
+// The number is a byte and no enum: whoever takes a refusal takes one with any number, and theorems say which numbers a stage gives, from one
+// to another.
 #[derive(Clone, Copy, Debug, PartialEq, Eq)]
 pub struct Refusal {
     pub number: u8,

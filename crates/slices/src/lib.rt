@@ -10,7 +10,7 @@ ghost use Rattle.slices.specs.Search.{first_at, is_line_feed};
 
 use std::cmp::Ordering;
 
-// The lesser of two numbers.
+// The lesser of two numbers. Callers take the library's `min`; this stands because `unique_least`, a theorem, speaks of it.
 pub fn least(a: usize, b: usize) -> usize
     ensures { result ≡ min a b }
 {
