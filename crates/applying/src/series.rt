@@ -3,10 +3,10 @@ ghost use Rattle.std.specs.Prelude.{◌≡◌};
 ghost use Rattle.applying.specs.Correct.{Comes};
 ghost use Rattle.applying.specs.Run.{leading_lines, by_correction, ran_by, marked};
 
-use crate::correct::{Stopped, correct};
-use crate::is_marked;
+use crate::correct::correct;
 use crate::lines::Lines;
 use crate::state::State;
+use crate::{Stopped, is_marked};
 use corrections::Entry;
 
 // How many of the lines in front are of correction n.
