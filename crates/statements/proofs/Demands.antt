@@ -47,7 +47,7 @@ use Rattle.applying.specs.Run.{by_correction}
 use Rattle.applying.specs.Procedures.{procedures, log_of}
 use Rattle.applying.specs.Origin.{lines_taken, HandedBack}
 use Rattle.applying.specs.Correct.{Wrong, stopped}
-use Rattle.selection.specs.Failing.{failure_as, failure_of, verdict_of, settled_of}
+use Rattle.selection.specs.Failing.{failure_as, failure_of, verdict_of as verdict_of_log, settled_of}
 use Rattle.selection.specs.Reasons.{reasons_of}
 use Rattle.selection.specs.Pick.{wanted_stage, everything, refused_by, picked, outcome_verdict, carried, log_verdict, pick_of, new_bytes, file_pick}
 use Rattle.selection.specs.Demand.{Demanded, Told, AllExplained}
@@ -227,7 +227,7 @@ reasons_refused = refused_unexplained
 
 -- Where a log fails. The verdict is that of the log's check; and what is told beside it is so of the first correction that fails: the line that
 -- can't be applied, or the route that is refused, by the refusal of its records alone.
-pub failing_verdict : (frozen log : List ℕ) → verdict_of (failure_of frozen log) ≡ log_verdict frozen log
+pub failing_verdict : (frozen log : List ℕ) → verdict_of_log (failure_of frozen log) ≡ log_verdict frozen log
 failing_verdict = same_verdict
 
 pub failing_told : (frozen log : List ℕ) (r : Refusal) → log_verdict frozen log ≡ Refused r
