@@ -95,7 +95,7 @@ const NO_REASONS: Explained = Explained {
 };
 
 // The check sum of all that is said to be wrong.
-fn failure_sum(failure: &Failure) -> u64 {
+fn failure_sum(failure: Failure) -> u64 {
     let fault = failure.fault;
     let inner = fault.inner;
     let line = rolled(rolled(0, failure.line as u64), fault.at as u64);
@@ -111,8 +111,8 @@ fn reasons_sum(sum: u64, explained: &Explained) -> u64 {
 
 fn explained_sum(explained: &Result<Explained, Failure>) -> u64 {
     match explained {
-        Ok(explained) => reasons_sum(failure_sum(&NO_FAILURE), explained),
-        Err(failure) => reasons_sum(failure_sum(failure), &NO_REASONS),
+        Ok(explained) => reasons_sum(failure_sum(NO_FAILURE), explained),
+        Err(failure) => reasons_sum(failure_sum(*failure), &NO_REASONS),
     }
 }
 
@@ -222,7 +222,7 @@ fn print_case(
         answer_sum(&picked),
         answer_sum(&made),
         sum_of(out),
-        failure_sum(&failure),
+        failure_sum(failure),
         explained_sum(&explained),
     ];
     for sum in sums {
