@@ -210,6 +210,9 @@ unique_log_source κs a x y v w p q = (p ∙ sym q, refl)
 pub unique_record_at : DeterminedAs routes.record_at.Kinds.ps routes.record_at.Kinds.r (λ κs. (λ x. x.now)) routes.record_at.Reads.Post
 unique_record_at κs a x y v w p q = (p ∙ sym q, refl)
 
+pub unique_texts_record : DeterminedAs routes.texts.Texts.record.Kinds.ps routes.texts.Texts.record.Kinds.r (λ κs. (λ x. x.now)) routes.texts.Texts.record.Reads.Post
+unique_texts_record κs a x y v w p q = (p ∙ sym q, refl)
+
 pub unique_sources_of : Determined routes.sources_of.Kinds.ps routes.sources_of.Kinds.r routes.sources_of.Reads.Post
 unique_sources_of κs a x y v w p q = (p ∙ sym q, refl)
 
@@ -250,6 +253,9 @@ unique_is_marked κs a x y v w p q = (p ∙ sym q, refl)
 
 pub unique_run : Determined applying.run.Kinds.ps applying.run.Kinds.r applying.run.Reads.Post
 unique_run κs a x y v w p q = (p ∙ sym q, refl)
+
+pub unique_run_unjudged : Determined applying.run_unjudged.Kinds.ps applying.run_unjudged.Kinds.r applying.run_unjudged.Reads.Post
+unique_run_unjudged κs a x y v w p q = (p ∙ sym q, refl)
 
 pub unique_no_fault : Determined applying.no_fault.Kinds.ps applying.no_fault.Kinds.r applying.no_fault.Reads.Post
 unique_no_fault κs a x y v w p q = (p ∙ sym q, refl)
