@@ -20,12 +20,9 @@ use fields::units::{
 use leg::terminator::Terminator;
 use parts::Parts;
 use refusals::{Refusal, Verdict};
+use std::io;
 use std::io::{BufWriter, Write};
-use std::{fs, io};
-
-fn print_refusal(to: &mut impl Write, r: Refusal) -> io::Result<()> {
-    write!(to, "no\t{}\t{}\t{}\n", r.number, r.place, r.column)
-}
+use vectors::Said;
 
 // The end of the case whose length stands at `at`, within the set.
 fn case_end(set: &[u8], at: usize) -> usize
@@ -83,9 +80,9 @@ fn print_end(to: &mut impl Write, tail: Tail, case: &[u8], written: [u8; 140]) -
     let same = slices::same(case, 0, &written, 0, 133);
     let past = slices::same(&written, 133, &[0u8; 7], 0, 7);
     if same & past {
-        write!(to, "\tsame\n")
+        writeln!(to, "\tsame")
     } else {
-        write!(to, "\tdiffers\n")
+        writeln!(to, "\tdiffers")
     }
 }
 
@@ -131,7 +128,7 @@ fn print_case(to: &mut impl Write, case: &[u8]) -> io::Result<()> {
         Ok(Parts::Continuation(continuation, content)) => {
             print_continuation(to, continuation, content, case)
         }
-        Err(r) => print_refusal(to, r),
+        Err(refusal) => writeln!(to, "no\t{refusal}"),
     }
 }
 
@@ -149,11 +146,7 @@ fn print_cases(to: &mut impl Write, set: &[u8]) -> io::Result<()> {
 
 // What writing gives.
 fn print_written(to: &mut impl Write, k: usize, verdict: Verdict) -> io::Result<()> {
-    write!(to, "write\t{k}\t")?;
-    match verdict {
-        Ok(()) => write!(to, "yes\n"),
-        Err(r) => print_refusal(to, r),
-    }
+    writeln!(to, "write\t{k}\t{}", Said(verdict))
 }
 
 fn try_leg(to: &mut impl Write, k: usize, leg: Leg) -> io::Result<()> {
@@ -512,7 +505,7 @@ fn print_sweep(to: &mut impl Write, set: &[u8], from: usize, name: &str) -> io::
     for column in 0..132usize {
         write!(to, "sweep\t{name}\t{}", column + 1)?;
         print_column(to, base, column)?;
-        write!(to, "\n")?;
+        writeln!(to)?;
     }
     Ok(())
 }
@@ -531,9 +524,7 @@ fn print_all(to: &mut impl Write, set: &[u8]) -> io::Result<()> {
 
 fn main(rt: HostRuntime) -> io::Result<()> {
     let mut space = [0u8; 65536];
-    // Where there is none, that is the error.
-    let _file = fs::open(&rt, "records.bin")?;
-    let n = folder::read(&rt, b"records.bin", &mut space);
+    let n = vectors::stored(&rt, "records.bin", &mut space)?;
     let mut to = BufWriter::new(rt.alloc(), io::writer(&rt))?;
     print_all(&mut to, &space[..n])?;
     to.flush()
