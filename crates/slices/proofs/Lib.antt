@@ -7,3 +7,4 @@ pub mod WriteLaws
 pub mod EveryLaws
 pub mod StdLaws
 mod WordLaws
+mod PastLaws

@@ -1,14 +1,14 @@
 -- Eight bytes as one number, the first the greatest: the numbers stand to each other as the bytes do.
 -- Assumes nothing.
-use Rattle.std.proofs.Common.{◌≡◌, refl, sym, ap, ap₂, ◌∙◌, ℕ, suc, ◌+◌, ◌*◌, ◌<◌, ◌≤◌, List, [], ◌∷◌, ◌++◌, arith, length, get_or, take, drop, w64, length-take-le}
+use Rattle.std.proofs.Common.{◌≡◌, refl, sym, ap, ap₂, ◌∙◌, ℕ, suc, ◌+◌, ◌-◌, ◌*◌, ◌<◌, ◌≤◌, true, false, List, [], ◌∷◌, ◌++◌, arith, length, get_or, take, drop, w64, length-take-le}
 use native.Mathlib.Decide.{dec_lt}
 use lib.ListN.{take-append-drop}
 use borrow.Author.Tests.{lt-ltb, le-ltb, eq-eqb, ne_eqb}
 use Rattle.std.specs.declared.cmp.Ordering.{Ordering}
 use Rattle.std.specs.declared.cmp.Ordering.TheVariants.{Less, Equal, Greater}
-use Rattle.std.specs.Ordering.{nat_cmp, ordering_then}
+use Rattle.std.specs.Ordering.{nat_cmp, ordering_then, is_ne}
 use Rattle.std.specs.Int.{from_be_bytes}
-use Rattle.slices.specs.Order.{order}
+use Rattle.slices.specs.Order.{order, equal, is_equal}
 use Rattle.slices.proofs.StdLaws.{order_step}
 use Rattle.slices.proofs.OrderLaws.{order_append}
 
@@ -76,3 +76,31 @@ by_words xs ys p q {o} hx hy ep eq e =
     ap₂ order (sym (ap (λ (l : List ℕ). l ++ drop 8 xs) ep ∙ take-append-drop 8 xs)) (sym (ap (λ (l : List ℕ). l ++ drop 8 ys) eq ∙ take-append-drop 8 ys))
     ∙ order_append p q (drop 8 xs) (drop 8 ys) (lp ∙ sym lq)
     ∙ ap (λ (r : Ordering). ordering_then r (order (drop 8 xs) (drop 8 ys))) (sym e)
+
+-- the last eight of each, and then what stands before them
+pub by_last_words : (xs ys xr yr p q : List ℕ) {o : Ordering} → length xs ≡ length ys → 8 ≤ length xs
+    → xr ≡ take (length xs - 8) xs → yr ≡ take (length ys - 8) ys → p ≡ drop (length xs - 8) xs → q ≡ drop (length ys - 8) ys → o ≡ order p q
+    → equal xs ys ≡ is_equal (ordering_then (order xr yr) o)
+unfolding equal
+by_last_words xs ys xr yr p q {o} l h ex ey ep eq e =
+    ap is_equal (ap₂ order (whole xs xr p ex ep) (whole ys yr q ey eq)
+    ∙ order_append xr yr p q (ap length ex ∙ length-take-le (length xs - 8) xs (omega arith) ∙ ap (λ (n : ℕ). n - 8) l
+    ∙ sym (ap length ey ∙ length-take-le (length ys - 8) ys (omega arith)))
+    ∙ ap (ordering_then (order xr yr)) (sym e))
+  where
+    whole : (zs zr r : List ℕ) → zr ≡ take (length zs - 8) zs → r ≡ drop (length zs - 8) zs → zs ≡ zr ++ r
+    whole zs zr r f g = sym (ap₂ (λ (a b : List ℕ). a ++ b) f g ∙ take-append-drop (length zs - 8) zs)
+
+pub last_differs : (w o : Ordering) → is_ne o ≡ true → is_equal (ordering_then w o) ≡ false
+last_differs Less o e = refl
+last_differs Equal Less e = refl
+last_differs Equal Equal e = cc
+last_differs Equal Greater e = refl
+last_differs Greater o e = refl
+
+pub last_same : (w o : Ordering) → is_ne o ≡ false → is_equal (ordering_then w o) ≡ is_equal w
+last_same Less o e = refl
+last_same Equal Less e = cc
+last_same Equal Equal e = refl
+last_same Equal Greater e = cc
+last_same Greater o e = refl

@@ -2,13 +2,15 @@
 // that is put past it is dropped, so no public function here asks anything of its caller.
 #![tactic(auto)]
 
-ghost use Rattle.std.specs.Prelude.{◌≡◌, ◌++◌, ◌+◌, ◌-◌, ◌≤◌, ◌<◌, min, get_or, length, set, take, drop, replicate, leb};
+ghost use Rattle.std.specs.Prelude.{◌≡◌, ◌==◌, ◌++◌, ◌+◌, ◌-◌, ◌≤◌, ◌<◌, min, get_or, length, set, take, drop, replicate, leb};
+ghost use Rattle.std.specs.List.{list_all};
 ghost use Rattle.std.proofs.lemmas.List.Edits.{sets};
 ghost use Rattle.slices.specs.Part.{part, blank, member};
 ghost use Rattle.slices.specs.Order.{order, equal};
 ghost use Rattle.slices.specs.Search.{first_at, is_line_feed};
 
-use std::cmp::Ordering;
+// What `compare` answers; callers may name it by this crate.
+pub use std::cmp::Ordering;
 
 // The lesser of two numbers. Callers take the library's `min`; this stands because `unique_least`, a theorem, speaks of it.
 pub fn least(a: usize, b: usize) -> usize
@@ -28,16 +30,15 @@ pub fn byte_at(s: &[u8], i: usize) -> u8
 pub fn byte_after(s: &[u8], i: usize, k: usize) -> u8
     ensures { result ≡ get_or s.now (i + k) 0 }
 {
-    i.checked_add(k).map_or(0, |place| byte_at(s, place))
+    byte_at(rest(s, i), k)
 }
 
 // Puts b in the place k after i, or nowhere past the end.
 pub fn put_after(out: &mut [u8], i: usize, k: usize, b: u8)
     ensures { out.new ≡ set out.old (i + k) b }
 {
-    match i.checked_add(k) {
-        Some(place) if place < out.len() => out[place] = b,
-        _ => {}
+    if k < out.len().saturating_sub(i) {
+        out[i + k] = b;
     }
 }
 
@@ -102,15 +103,39 @@ fn compare_bytes(x: &[u8], y: &[u8]) -> Ordering
     x.len().cmp(&y.len())
 }
 
-// The order of bytes that may be past an end.
+// What there is of a run: n bytes from i on at most.
+fn front(s: &[u8], i: usize, n: usize) -> &[u8]
+    ensures { result.now ≡ take n (drop i s.now) }
+{
+    let rest = rest(s, i);
+    &rest[..rest.len().min(n)]
+}
+
+// Whether bytes are nothing but zeros.
+fn all_zero(s: &[u8]) -> bool
+    ensures { result ≡ list_all (λ b. b == 0) s.now }
+{
+    s.iter().all(|b| *b == 0)
+}
+
+// The order of bytes that may be past an end: what there is of both runs is compared, and what one has besides with zeros. It is not to be
+// inlined: it is seldom asked, and its callers, which are to be, would be too large for that.
+#[inline(never)]
 fn compare_past(a: &[u8], i: usize, b: &[u8], j: usize, n: usize) -> Ordering
     ensures { result ≡ order (part n i a.now) (part n j b.now) }
 {
-    for k in 0..n {
-        let way = byte_after(a, i, k).cmp(&byte_after(b, j, k));
-        if way.is_ne() {
-            return way;
-        }
+    let x = front(a, i, n);
+    let y = front(b, j, n);
+    let both = x.len().min(y.len());
+    let way = compare_words(&x[..both], &y[..both]);
+    if way.is_ne() {
+        return way;
+    }
+    if !all_zero(&x[both..]) {
+        return Ordering::Greater;
+    }
+    if !all_zero(&y[both..]) {
+        return Ordering::Less;
     }
     Ordering::Equal
 }
@@ -128,7 +153,31 @@ fn compare_word(p: &[u8; 8], q: &[u8; 8]) -> Ordering
 pub fn same(a: &[u8], i: usize, b: &[u8], j: usize, n: usize) -> bool
     ensures { result ≡ equal (part n i a.now) (part n j b.now) }
 {
-    compare(a, i, b, j, n).is_eq()
+    if lies(a, i, n) & lies(b, j, n) {
+        same_words(&a[i..i + n], &b[j..j + n])
+    } else {
+        compare_past(a, i, b, j, n).is_eq()
+    }
+}
+
+// Whether bytes, as many of the one as of the other, are the same, eight at a time while there are so many. From the last on: the keys of
+// routes at one airport differ late.
+#[inline]
+fn same_words(mut x: &[u8], mut y: &[u8]) -> bool
+    requires { length x.now ≡ length y.now }
+    ensures { result ≡ equal x.entry.now y.entry.now }
+{
+    while let (Some((x_rest, p)), Some((y_rest, q))) = (
+        x.split_last_chunk::<8>(),
+        y.split_last_chunk::<8>(),
+    ) {
+        if compare_word(p, q).is_ne() {
+            return false;
+        }
+        x = x_rest;
+        y = y_rest;
+    }
+    compare_bytes(x, y).is_eq()
 }
 
 // Whether the n bytes from i on are all blanks. None past the end is one.
