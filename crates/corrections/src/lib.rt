@@ -13,6 +13,7 @@ ghost use Rattle.corrections.specs.Reading.{
   entry,
   entries_of,
   read_log,
+  refused,
   index_of,
   grown,
 };
@@ -115,6 +116,14 @@ fn width(line: Line, begun: usize) -> usize
         Line::Heading => lines::heading_width(begun + 1),
         Line::TakenOut | Line::PutIn => CHANGE_WIDTH,
     }
+}
+
+// The answer to a log that is refused by this: the refusal, with no index beside it.
+#[tactic(auto, unfolding(crate::specs::Reading::index_of))]
+pub fn refused_by(refusal: Refusal) -> Result<Index, Refusal>
+    ensures { result ≡ index_of (refused refusal) }
+{
+    Err(refusal)
 }
 
 // Reads a log beside so many frozen records: 13 for its length; then line by line 9, and 13 for correction 201 and for an A line that

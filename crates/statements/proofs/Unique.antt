@@ -230,6 +230,9 @@ unique_check κs a x y v w p q = (p ∙ sym q, refl)
 
 -- ---- corrections
 
+pub unique_refused_by : Determined corrections.refused_by.Kinds.ps corrections.refused_by.Kinds.r corrections.refused_by.Reads.Post
+unique_refused_by κs a x y v w p q = (p ∙ sym q, refl)
+
 pub unique_index_of : Determined corrections.index_of.Kinds.ps corrections.index_of.Kinds.r corrections.index_of.Reads.Post
 unique_index_of κs a x y v w p q = (p ∙ sym q, refl)
 
