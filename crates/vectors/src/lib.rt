@@ -129,6 +129,15 @@ impl Text {
         self.length = self.length.saturating_sub(n);
     }
 
+    // Makes the text as long as the space, whatever stands there.
+    pub fn fill(&mut self)
+        ensures space { self.new.space ≡ self.old.space }
+        ensures length { self.new.length ≡ 65536 }
+        ensures before { self.new.before ≡ self.old.before }
+    {
+        self.length = SPACE;
+    }
+
     // Puts a byte at a place of the space, or nowhere past its end.
     pub fn set(&mut self, place: usize, byte: u8)
         ensures space { self.new.space ≡ set self.old.space place byte }

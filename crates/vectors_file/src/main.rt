@@ -13,11 +13,24 @@ use std::io;
 use std::io::{BufWriter, Write};
 use vectors::{Instruction, Said, Text};
 
+// Behind a file that is longer than this, and so too long by far, nothing is counted any more.
+const LONG: usize = 65000;
+
 // The n-th record of the bases, counted from 0, and a line feed.
 fn with_line_feed(bases: &[u8], n: u8) -> [u8; 133] {
     let mut line = [b'\n'; 133];
     slices::copy(bases, n as usize * 132, &mut line, 0, 132);
     line
+}
+
+// Puts bytes behind a file; one that was longer than LONG fills the space from then on.
+fn put_behind(file: &mut Text, bytes: &[u8]) -> io::Result<()> {
+    let long = LONG < file.bytes().len();
+    file.write_all(bytes)?;
+    if long {
+        file.fill();
+    }
+    Ok(())
 }
 
 // Carries out an instruction; what the file that is whole comes to is printed.
@@ -32,7 +45,7 @@ fn carry_out(
             writeln!(to, "{}", Said(routes::check(file.bytes())))?;
             file.end();
         }
-        1 => file.write_all(&with_line_feed(bases, step.x))?,
+        1 => put_behind(file, &with_line_feed(bases, step.x))?,
         2 => {
             if let Some(last) = file.bytes().len().checked_sub(133) {
                 if 1 <= step.x {
@@ -41,7 +54,7 @@ fn carry_out(
             }
         }
         3 => file.cut(step.x as usize),
-        4 => file.write_all(&[step.x])?,
+        4 => put_behind(file, &[step.x])?,
         5 => file.again(),
         _ => file.cut(usize::MAX),
     }
