@@ -12,15 +12,15 @@
 // The texts and what is to be printed are made by the program in reference/.
 #![tactic(auto)]
 
-use corrections::Index;
-use refusals::Refusal;
 use std::io;
 use std::io::{BufWriter, Write};
 use vectors::{Instruction, Text};
-use wanted::Wanted;
 
-fn print_index(to: &mut impl Write, index: &Result<Index, Refusal>) -> io::Result<()> {
-    match index {
+// What reading a log says. It is called, as `print_list` is: a function pays for the size of its locals each time that it is entered, and an
+// index is large beside one instruction.
+#[inline(never)]
+fn print_log(to: &mut impl Write, log: &[u8], frozen: usize) -> io::Result<()> {
+    match &corrections::index_of(log, frozen) {
         Ok(index) => {
             let corrections = index.corrections;
             let count = index.count;
@@ -34,7 +34,10 @@ fn print_index(to: &mut impl Write, index: &Result<Index, Refusal>) -> io::Resul
     }
 }
 
-fn print_wanted(to: &mut impl Write, wanted: &Wanted) -> io::Result<()> {
+// What reading a list says.
+#[inline(never)]
+fn print_list(to: &mut impl Write, list: &[u8]) -> io::Result<()> {
+    let wanted = wanted::numbers(list);
     write!(to, "want\t{}", wanted.count)?;
     for number in wanted.at.iter().take(wanted.count) {
         write!(to, "\t{number}")?;
@@ -52,7 +55,7 @@ fn carry_out(
 ) -> io::Result<usize> {
     match step.kind {
         0 => {
-            print_index(to, &corrections::index_of(text.bytes(), frozen))?;
+            print_log(to, text.bytes(), frozen)?;
             text.end();
             return Ok(0);
         }
@@ -66,7 +69,7 @@ fn carry_out(
         4 => text.write_all(&[step.x; 255][..step.y as usize])?,
         5 => text.again(),
         6 => {
-            print_wanted(to, &wanted::numbers(text.bytes()))?;
+            print_list(to, text.bytes())?;
             text.end();
         }
         7 => return Ok(step.number() as usize),
